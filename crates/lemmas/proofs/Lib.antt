@@ -1,0 +1,15 @@
+-- The tools of proof, for every crate above: no word of electricity. docs/PROVING.md shows how each is used.
+-- a test made of two
+pub mod Both
+-- whole numbers, and equations between polynomials
+pub mod Integers
+pub mod Ring
+pub mod Solver
+pub mod Solve
+pub mod Cancel
+-- how far from 0, and the signed words of the machine
+pub mod Distance
+pub mod Words
+-- tables, and lent parts of a buffer
+pub mod Table
+pub mod Over

@@ -1,0 +1,3 @@
+-- The two definitions of this crate that contracts cite. The rest of the crate is proof (proofs/Lib.antt).
+pub mod Small
+pub mod Over

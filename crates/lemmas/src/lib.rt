@@ -1,0 +1,1 @@
+// Nothing runs here: the proof tools stand in specs/.

@@ -1,0 +1,112 @@
+-- Laws of the definitions, for the proofs here and in the crates above.
+use mathlib.Core.Bool.{Bool, false, cond}
+use mathlib.Core.Path.{_≡_, sym, ap, _∙_}
+use Prim.Native.Nat.{ℕ, zero, suc, _+_, _*_, _^_, _≤_, _<_}
+use native.Mathlib.Nat.{le-trans, le-of-lt, le-antisymm, lt-of-le-of-lt, lt-of-lt-of-le, lt-of-not-le, not-le-of-lt, mul-le-mul, mul-le-mul-left, mul-le-mul-right, mul-lt-mul-of-pos-right}
+use native.Mathlib.Decide.{decLe}
+use native.Mathlib.Omega.{arith}
+use lib.Dec.{leb}
+use lib.Arith.{digits-lt}
+use lib.Pow.{split, high, low}
+use borrow.Author.Tests.{lt-ltb, le-ltb, lt-leb}
+use Rattle.wide.specs.Value.{valueOf, wideOf, fittedOf}
+use Rattle.wide.specs.Root.{Root}
+use Rattle.wide.specs.declared.Wide.{Wide}
+use Rattle.wide.specs.declared.Fitted.the-variants.{Whole, Past}
+
+-- the words of a number have its value
+pub value-wide : (n : ℕ) → valueOf (wideOf n) ≡ n
+unfolding valueOf wideOf
+value-wide n = split n 64
+
+-- words that fit are those of their value
+pub wide-value : (w : Wide) → w .lo < 2 ^ 64 → wideOf (valueOf w) ≡ w
+unfolding valueOf wideOf
+wide-value w fits = λ i. record { hi = high (w .hi) 64 fits i; lo = low (w .hi) 64 fits i }
+
+-- what `w ≡ wideOf n` says of the value, and how it is shown
+pub value-of : {w : Wide} {n : ℕ} → w ≡ wideOf n → valueOf w ≡ n
+value-of {n = n} e = ap valueOf e ∙ value-wide n
+
+pub wide-of : (w : Wide) {n : ℕ} → w .lo < 2 ^ 64 → valueOf w ≡ n → w ≡ wideOf n
+wide-of w fits e = sym (wide-value w fits) ∙ ap wideOf e
+
+-- so words that fit are settled by their value
+pub wide-same : (a b : Wide) → a .lo < 2 ^ 64 → b .lo < 2 ^ 64 → valueOf a ≡ valueOf b → a ≡ b
+wide-same a b fa fb e = wide-of a fa e ∙ wide-value b fb
+
+-- how large a value is, by its words
+pub value-lt : (w : Wide) → w .hi < 2 ^ 64 → w .lo < 2 ^ 64 → valueOf w < 2 ^ 128
+unfolding valueOf
+value-lt w fh fl = digits-lt fh fl
+
+pub value-low : (w : Wide) → w .hi ≡ 0 → valueOf w ≡ w .lo
+unfolding valueOf
+value-low w e = omega arith
+
+pub value-high : (w : Wide) → (w .hi ≡ 0 → ⊥) → 2 ^ 64 ≤ valueOf w
+unfolding valueOf
+value-high w ne = omega arith
+
+-- a number past 2 ^ 128 is more than any words
+pub past-leb : (n : ℕ) (w : Wide) → w .hi < 2 ^ 64 → w .lo < 2 ^ 64 → 2 ^ 128 ≤ n → leb n (valueOf w) ≡ false
+past-leb n w fh fl h = lt-leb n (valueOf w) (lt-of-lt-of-le (value-lt w fh fl) h)
+
+-- a number from 2 ^ 128 on is past, and one below it whole
+pub fitted-past : (n : ℕ) → 2 ^ 128 ≤ n → fittedOf n ≡ Past
+unfolding fittedOf
+fitted-past n h = ap (λ (b : Bool). cond b (Whole (wideOf n)) Past) (le-ltb n (2 ^ 128) h)
+
+pub fitted-whole : (n : ℕ) → n < 2 ^ 128 → fittedOf n ≡ Whole (wideOf n)
+unfolding fittedOf
+fitted-whole n h = ap (λ (b : Bool). cond b (Whole (wideOf n)) Past) (lt-ltb n (2 ^ 128) h)
+
+-- and back
+apart : (w : Wide) → Whole w ≡ Past → ⊥
+apart w e = let z : _≡_ {A = ℕ} 0 1 = cc in omega arith
+
+pub whole-value : (n : ℕ) {w : Wide} → fittedOf n ≡ Whole w → valueOf w ≡ n
+whole-value n {w} e = either (decLe (2 ^ 128) n)
+  where
+    either : Dec (2 ^ 128 ≤ n) → valueOf w ≡ n
+    either (yes h) = absurd (apart w (sym e ∙ fitted-past n h))
+    either (no f) = value-of (cc (fitted-whole n (lt-of-not-le f)))
+
+pub past-least : (n : ℕ) → fittedOf n ≡ Past → 2 ^ 128 ≤ n
+past-least n e = either (decLe (2 ^ 128) n)
+  where
+    either : Dec (2 ^ 128 ≤ n) → 2 ^ 128 ≤ n
+    either (yes h) = h
+    either (no f) = absurd (apart (wideOf n) (sym (fitted-whole n (lt-of-not-le f)) ∙ e))
+
+square-le : {a b : ℕ} (den : ℕ) → a ≤ b → a * a * den ≤ b * b * den
+square-le den h = mul-le-mul-right den (mul-le-mul h h)
+
+square-more : {a b den : ℕ} → 0 < den → a < b → a * a * den < b * b * den
+square-more {a = a} pos h = mul-lt-mul-of-pos-right (lt-of-le-of-lt (mul-le-mul-left a (le-of-lt h)) (mul-lt-mul-of-pos-right h (omega arith))) pos
+
+square-lt : {a b : ℕ} (den : ℕ) → a * a * den < b * b * den → a < b
+square-lt den h = lt-of-not-le (λ g. not-le-of-lt h (square-le den g))
+
+-- the numbers up to the root reach num, and no others do
+pub root-reaches : {num den n m : ℕ} → Root num den n → m ≤ n → m * m * den ≤ num
+root-reaches {den = den} r h = le-trans (square-le den h) (r .low)
+
+pub root-greatest : {num den n : ℕ} (m : ℕ) → Root num den n → m * m * den ≤ num → m ≤ n
+root-greatest {den = den} {n = n} m r h = let above : m < n + 1 = square-lt den (lt-of-le-of-lt h (r .high)) in omega arith
+
+-- so there is one root at most
+pub root-unique : {num den n m : ℕ} → Root num den n → Root num den m → n ≡ m
+root-unique {n = n} {m = m} r s = le-antisymm (root-greatest n s (r .low)) (root-greatest m r (s .low))
+
+-- and, but for a divisor of 0, there is one
+pub root-exists : (num den : ℕ) → 1 ≤ den → (n : ℕ) × Root num den n
+root-exists zero den pos = (0, record { low = omega arith; high = omega arith })
+root-exists (suc num) den pos = grown (root-exists num den pos)
+  where
+    grown : (n : ℕ) × Root num den n → (n : ℕ) × Root (suc num) den n
+    grown (n, r) = either (decLe ((n + 1) * (n + 1) * den) (suc num))
+      where
+        either : Dec ((n + 1) * (n + 1) * den ≤ suc num) → (n : ℕ) × Root (suc num) den n
+        either (yes h) = (n + 1, record { low = h; high = lt-of-le-of-lt (r .high) (square-more pos (omega arith)) })
+        either (no f) = (n, record { low = omega (arith, r .low); high = lt-of-not-le f })

@@ -1,0 +1,2 @@
+pub mod Equation
+mod Four
