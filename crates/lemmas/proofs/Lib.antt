@@ -1,6 +1,6 @@
 -- The tools of proof, for every crate above: no word of electricity. docs/PROVING.md shows how each is used.
--- a test made of two
-pub mod Both
+-- tests made of two
+pub mod Bools
 -- whole numbers, and equations between polynomials
 pub mod Integers
 pub mod Ring

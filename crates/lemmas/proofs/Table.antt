@@ -7,7 +7,7 @@ use Prim.Native.Nat.{ℕ, zero, suc, _+_, _<_}
 use native.Mathlib.Nat.{add-zero, zero-add, add-suc, suc-add, le-of-suc-le-suc, not-suc-le-zero}
 use lib.Dec.{T}
 use lib.ListN.{getD}
-use Rattle.lemmas.proofs.Both.{both}
+use Rattle.lemmas.proofs.Bools.{bothT}
 
 -- a proof for each of i, i + 1, .., k of them
 abbrev pub Each : (ℕ → Type 0) → ℕ → ℕ → Type 0
@@ -29,7 +29,7 @@ every p i (suc k) = p i && every p (suc i) k
 
 passed : (p : ℕ → Bool) (i k : ℕ) → T (every p i k) → Each (λ n. T (p n)) i k
 passed p i zero t = tt
-passed p i (suc k) t = let h = both (p i) (every p (suc i) k) t in (h .0, passed p (suc i) k (h .1))
+passed p i (suc k) t = let h = bothT (p i) (every p (suc i) k) t in (h .0, passed p (suc i) k (h .1))
 
 pub every-at : (p : ℕ → Bool) (k n : ℕ) → n < k → T (every p 0 k) → T (p n)
 every-at p k n h t = each-at (λ m. T (p m)) k n h (passed p 0 k t)

@@ -17,7 +17,7 @@ use mir.Val.{SFits, toZ, ofZ}
 use mir.Facts.{toZ-ofZ}
 use Rattle.lemmas.proofs.Solver.{E, var, con, _⊕_, _⊗_, _⊖_, ⊝_}
 use Rattle.lemmas.specs.Small.{Small}
-use Rattle.lemmas.proofs.Both.{both}
+use Rattle.lemmas.proofs.Bools.{bothT}
 use Rattle.lemmas.proofs.Distance.{small-itself, small-neg, small-add, small-sub, small-mul}
 
 mag≤natAbs : (z : ℤ) → mag z ≤ natAbs z
@@ -116,16 +116,16 @@ near : (k : List Known) (e : E ℤ) → T (ok k e) → Near (mach k e) (means k 
 near k (var i) t = record { is = (nth k i) .is; small = (nth k i) .held; space = t }
 near k (con z) t = record { is = refl; small = small-itself z; space = t }
 near k (a ⊕ b) t =
-    let h = both (room (most k a + most k b)) (ok k a && ok k b) t in
-    let g = both (ok k a) (ok k b) (h .1) in
+    let h = bothT (room (most k a + most k b)) (ok k a && ok k b) t in
+    let g = bothT (ok k a) (ok k b) (h .1) in
     sum (near k a (g .0)) (near k b (g .1)) (h .0)
 near k (a ⊗ b) t =
-    let h = both (room (most k a * most k b)) (ok k a && ok k b) t in
-    let g = both (ok k a) (ok k b) (h .1) in
+    let h = bothT (room (most k a * most k b)) (ok k a && ok k b) t in
+    let g = bothT (ok k a) (ok k b) (h .1) in
     product (near k a (g .0)) (near k b (g .1)) (h .0)
 near k (a ⊖ b) t =
-    let h = both (room (most k a + most k b)) (ok k a && ok k b) t in
-    let g = both (ok k a) (ok k b) (h .1) in
+    let h = bothT (room (most k a + most k b)) (ok k a && ok k b) t in
+    let g = bothT (ok k a) (ok k b) (h .1) in
     difference (near k a (g .0)) (near k b (g .1)) (h .0)
 near k (⊝ a) t = opposite (near k a t)
 

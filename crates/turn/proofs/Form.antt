@@ -8,7 +8,7 @@ use mathlib.Core.List.{List, [], _∷_, _++_}
 use Prim.Native.Nat.{ℕ, zero, suc}
 use lib.Dec.{T}
 use lib.IntN.{ℤ, pos}
-use Rattle.lemmas.proofs.Both.{both}
+use Rattle.lemmas.proofs.Bools.{bothT}
 use Rattle.lemmas.proofs.Ring.{ℤcoef, ℤring}
 use Rattle.lemmas.proofs.Solver.{E, var, con, _⊕_, _⊗_, ⊝_, eval, same, ring}
 use Rattle.lemmas.proofs.Solve.{Fun}
@@ -53,9 +53,9 @@ wholeF r = complexF r (con (pos 0))
 -- four tests
 pub four : (a b c d : Bool) → T (a && (b && (c && d))) → T a × T b × T c × T d
 four a b c d t =
-    let h = both a (b && (c && d)) t in
-    let g = both b (c && d) (h .1) in
-    let e = both c d (g .1) in
+    let h = bothT a (b && (c && d)) t in
+    let g = bothT b (c && d) (h .1) in
+    let e = bothT c d (g .1) in
     (h .0, g .0, e .0, e .1)
 
 abbrev pub sameF : Form → Form → Bool

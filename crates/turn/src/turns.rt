@@ -20,7 +20,7 @@ const TURNS: [[i64; 4]; 12] = [
 ];
 
 // tⁿ
-pub fn row(n: usize) -> Num
+pub(super) fn row(n: usize) -> Num
     requires { ⌜ n < 12 ⌝ }
     ensures { λ r. ⌜ r ≡ powerN n ⌝ }
 {

@@ -1,0 +1,46 @@
+-- The fault table over impedances: what holds of each row holds of the row of every kind. Assumes nothing.
+use Prim.Native.Nat.{ℕ, zero, suc}
+use lib.IntN.{ℤ}
+use Rattle.turn.specs.declared.Num.{Num}
+use Rattle.turn.specs.Number.{oneN, _+N_, negN}
+use Rattle.paper.specs.declared.Ohms.{Ohms}
+use Rattle.paper.specs.Fault.{nilN, numOf, Seq, seq, Short, G, Δ, shorts, shortOf, D, currents}
+
+-- what holds of each sequence
+pub record EachSeq (P : Num → Type 0) (s : Seq) : Type 0 where
+  pub e1 : P (s .s1)
+  pub e2 : P (s .s2)
+  pub e0 : P (s .s0)
+
+-- P speaks of a divisor and of what stands above the line
+module _ (Z1 Z2 Z0 Zf : Num) (P : Num → Seq → Type 0) where
+  pub each-row : P (Z1 +N Zf) (seq oneN nilN nilN)
+      → P (Z1 +N Z2 +N G Z1 Z2 Z0 Zf) (seq oneN oneN oneN)
+      → P (Z1 +N Z2 +N Zf) (seq oneN (negN oneN) nilN)
+      → P (Δ Z1 Z2 Z0 Zf) (seq (Z2 +N G Z1 Z2 Z0 Zf) (negN (G Z1 Z2 Z0 Zf)) (negN Z2))
+      → P oneN (seq nilN nilN nilN)
+      → (kind : ℕ)
+      → P (shortOf Z1 Z2 Z0 Zf kind .divisor) (shortOf Z1 Z2 Z0 Zf kind .above)
+  unfolding shortOf shorts
+  each-row p0 p1 p2 p3 p4 zero = p0
+  each-row p0 p1 p2 p3 p4 (suc zero) = p1
+  each-row p0 p1 p2 p3 p4 (suc (suc zero)) = p2
+  each-row p0 p1 p2 p3 p4 (suc (suc (suc zero))) = p3
+  each-row p0 p1 p2 p3 p4 (suc (suc (suc (suc k)))) = p4
+
+-- the table over impedances
+module _ (z1 z2 z0 zf : Ohms) where
+  abbrev pub GOf : Num
+  GOf = G (numOf z1) (numOf z2) (numOf z0) (numOf zf)
+
+  abbrev pub ΔOf : Num
+  ΔOf = Δ (numOf z1) (numOf z2) (numOf z0) (numOf zf)
+
+  abbrev pub rowOf : ℕ → Short
+  rowOf kind = shortOf (numOf z1) (numOf z2) (numOf z0) (numOf zf) kind
+
+  abbrev pub DOf : ℕ → ℤ
+  DOf kind = D (numOf z1) (numOf z2) (numOf z0) (numOf zf) kind
+
+  abbrev pub IOf : ℕ → Seq
+  IOf kind = currents (numOf z1) (numOf z2) (numOf z0) (numOf zf) kind

@@ -1,0 +1,35 @@
+-- 01, 'Files': labels. Assumes nothing.
+use mathlib.Core.Bool.{Bool, true, false, cond, _&&_}
+use mathlib.Core.List.{List, [], _∷_}
+use Prim.Native.Nat.{ℕ}
+use lib.Dec.{eqb}
+use lib.ListN.{replicate}
+use Rattle.paper.specs.Bytes.{sameBytes, within}
+
+abbrev pub Label : Type 0
+Label = List ℕ
+
+-- "twelve spaces"
+unfoldable pub spaces : Label
+spaces = replicate 12 0x20
+
+-- "A label is 1 to 12 bytes from 0x21 to 0x7E, then spaces (0x20) to the end."
+unfoldable pub blank : Label → Bool
+blank [] = true
+blank (x ∷ xs) = let rest = blank xs in eqb x 0x20 && rest
+
+unfoldable pub visibleThenBlank : Label → Bool
+visibleThenBlank [] = true
+visibleThenBlank (x ∷ xs) = let rest = visibleThenBlank xs in cond (within 0x21 0x7E x) rest (blank (x ∷ xs))
+
+unfoldable pub formed : Label → Bool
+formed [] = false
+formed (x ∷ xs) = within 0x21 0x7E x && visibleThenBlank xs
+
+-- "Labels are equal only if all twelve bytes are." The one definition of it
+unfoldable pub sameLabel : Label → Label → Bool
+sameLabel a b = sameBytes a b
+
+unfoldable pub Label·open : Unit {0}
+unfolding spaces blank visibleThenBlank formed sameLabel
+Label·open = tt

@@ -1,0 +1,17 @@
+-- The paper (01) as definitions, one file to a heading or a half of one, in its order.
+-- 'Files'
+pub mod Bytes
+pub mod Label
+-- 'Record kinds'
+pub mod Kind
+pub mod File
+-- 'Sums'
+pub mod Chain
+-- 'The four faults at board k'
+pub mod Fault
+pub mod Phase
+pub mod Amps
+-- 'What the caller gets'
+pub mod Rows
+pub mod Refusal
+pub mod Answer

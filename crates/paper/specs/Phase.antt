@@ -1,0 +1,85 @@
+-- 01, 'The four faults at board k': voltages, record currents, phases and turns, of an accepted question. Assumes nothing.
+use mathlib.Core.Bool.{Bool, true, false}
+use mathlib.Core.List.{List, [], _∷_}
+use Prim.Native.Nat.{ℕ, _+_, _*_, _%_}
+use lib.IntN.{ℤ, pos}
+use Rattle.turn.specs.declared.Num.{Num}
+use Rattle.turn.specs.Number.{wholeN, _+N_, _-N_, negN, _*N_, turnN}
+use Rattle.paper.specs.declared.Head.{Head}
+use Rattle.paper.specs.declared.Fault.{Fault}
+use Rattle.paper.specs.Bytes.{oneOf}
+use Rattle.paper.specs.File.{headOf, faultOf, boardsOf}
+use Rattle.paper.specs.Chain.{Boards, placeOf, chain, zeroChain, Z1, Z2, Z0, shared1, shared2, shared0, turnOf}
+use Rattle.paper.specs.Fault.{nilN, numOf, Seq, seq, D, currents}
+
+-- ---- a question: a network and a fault, decoded, with the faulted board's place
+pub record Asked : Type 0 where
+  pub head : Head
+  pub boards : Boards
+  pub fault : Fault
+  pub k : ℕ
+
+unfoldable pub asked : List ℕ → List ℕ → Asked
+asked net flt =
+    let bs = boardsOf net in
+    let f = faultOf flt in
+    record { head = headOf net; boards = bs; fault = f; k = placeOf (f .label) bs }
+
+module _ (q : Asked) where
+  open Asked q using (boards, fault, k)
+
+  -- D, and I1, I2 and I0 over it
+  unfoldable pub theD : ℤ
+  theD = D (numOf (Z1 boards k)) (numOf (Z2 boards k)) (numOf (Z0 boards k)) (numOf (fault .zf)) (fault .kind)
+
+  unfoldable pub theI : Seq
+  theI = currents (numOf (Z1 boards k)) (numOf (Z2 boards k)) (numOf (Z0 boards k)) (numOf (fault .zf)) (fault .kind)
+
+  -- "The referred voltages of board j are W1 = 1 - Z1jk·I1, W2 = -Z2jk·I2, W0 = -Z0jk·I0", over D
+  unfoldable pub voltage : ℕ → Seq
+  voltage j =
+      seq (wholeN theD -N numOf (shared1 boards j k) *N theI .s1) (negN (numOf (shared2 boards j k) *N theI .s2))
+      (negN (numOf (shared0 boards j k) *N theI .s0))
+
+  -- "A record on k's chain carries I1 and I2; it carries I0 if it also lies on k's zero-sequence sum; otherwise zero."
+  unfoldable pub onlyIf : Bool → Num → Num
+  onlyIf true n = n
+  onlyIf false n = nilN
+
+  unfoldable pub current : ℕ → Seq
+  current j =
+      let on = oneOf j (chain boards k) in
+      seq (onlyIf on (theI .s1)) (onlyIf on (theI .s2)) (onlyIf (oneOf j (zeroChain boards k)) (theI .s0))
+
+-- "With d = s(j) - s(k), phase (p+i) mod 3 shows t^(8p)·(X0 + t^(8i-d)·X1 + t^(4i+d)·X2)". Twelve turns go round, so t^(-d) is t^(11 s(j) + s(k)) and t^d is t^(s(j) + 11 s(k))
+unfoldable pub shows : ℕ → ℕ → ℕ → Seq → ℕ → Num
+shows p sj sk X i = turnN (8 * p) (X .s0 +N turnN (8 * i + 11 * sj + sk) (X .s1) +N turnN (4 * i + sj + 11 * sk) (X .s2))
+
+-- phase ph (0 a, 1 b, 2 c) is (p + i) mod 3 for i = (ph + 2p) mod 3
+unfoldable pub phase : ℕ → ℕ → ℕ → Seq → ℕ → Num
+phase p sj sk X ph = shows p sj sk X ((ph + 2 * p) % 3)
+
+-- "three phases, each of four whole numbers"
+abbrev pub four : Num → List ℤ
+four n = n .x0 ∷ n .x1 ∷ n .x2 ∷ n .x3 ∷ []
+
+unfoldable pub phases : ℕ → ℕ → ℕ → Seq → List (List ℤ)
+phases p sj sk X = four (phase p sj sk X 0) ∷ four (phase p sj sk X 1) ∷ four (phase p sj sk X 2) ∷ []
+
+-- ---- what is shown
+module _ (q : Asked) where
+  open Asked q using (boards, fault, k)
+
+  -- "Fault currents flow out of the network": at board k itself, so with no turn between
+  unfoldable pub faultCurrents : List (List ℤ)
+  faultCurrents = phases (fault .phase) 0 0 (theI q)
+
+  unfoldable pub boardVoltages : ℕ → List (List ℤ)
+  boardVoltages j = phases (fault .phase) (turnOf boards j) (turnOf boards k) (voltage q j)
+
+  unfoldable pub recordCurrents : ℕ → List (List ℤ)
+  recordCurrents j = phases (fault .phase) (turnOf boards j) (turnOf boards k) (current q j)
+
+unfoldable pub Phase·open : Unit {0}
+unfolding asked theD theI voltage onlyIf current shows phase phases faultCurrents boardVoltages recordCurrents
+Phase·open = tt

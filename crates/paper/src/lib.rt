@@ -1,0 +1,56 @@
+// The files and the answer of the paper, as the crates above pass them to each other. No functions: what each field means stands in specs/.
+
+// An impedance, in counts.
+pub struct Ohms {
+    pub r: u16,
+    pub x: u16,
+}
+
+// The head without its mark.
+pub struct Head {
+    pub volts: u16,
+    pub unit: u16,
+    pub boards: u16,
+}
+
+// A board's record without its mark. The feeder is kept as it was written.
+pub struct Board {
+    pub z1: Ohms,
+    pub z2: Ohms,
+    pub z0: Ohms,
+    pub zn: Ohms,
+    pub label: [u8; 12],
+    pub feeder: [u8; 12],
+    pub kind: u8,
+    pub clock: u8,
+}
+
+// The fault's record without its mark.
+pub struct Fault {
+    pub zf: Ohms,
+    pub label: [u8; 12],
+    pub kind: u8,
+    pub phase: u8,
+}
+
+// The bytes that a call is lent.
+pub enum Lent {
+    NetworkBytes,
+    FaultBytes,
+}
+
+// A part of them.
+pub struct Part {
+    pub whose: Lent,
+    pub start: usize,
+    pub len: usize,
+}
+
+// What a call returns.
+pub struct Answer {
+    pub amps: u64,
+    pub part: Part,
+    pub place: u16,
+    pub n: u16,
+    pub number: u8,
+}
