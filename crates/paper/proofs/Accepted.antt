@@ -17,7 +17,8 @@ use Rattle.paper.specs.Chain.{Boards, placeOf, unearthed}
 use Rattle.paper.specs.Rows.{test, first}
 use Rattle.paper.specs.Refusal.{theRecord, headRanges, headRows, boardTests, recordRefusal, recordsRefusal, networkRefusal, phaseWrong, earthMissing, answerSize, faultRows, refusal}
 use Rattle.lemmas.proofs.Bools.{both, neither, same-by}
-use Rattle.paper.proofs.Impedance.{AtMost, not-over}
+use Rattle.paper.specs.Bounds.{AtMost}
+use Rattle.paper.proofs.Impedance.{not-over}
 use Rattle.paper.proofs.Lists.{On, on-here, on-there}
 use Rattle.paper.proofs.Places.{place-most}
 use Rattle.paper.proofs.Rows.{Clear, clear, clear-at, then-none}

@@ -27,7 +27,7 @@ use Rattle.paper.proofs.Flat.{flat-num, flat-add, flat-neg, flat-square
 use Rattle.paper.proofs.Row.{rowOf}
 use Rattle.paper.proofs.Square.{sq}
 use Rattle.paper.proofs.Divisor.{D-natural, D-square, theD-least}
-use Rattle.paper.proofs.Impedance.{AtMost}
+use Rattle.paper.specs.Bounds.{AtMost}
 use Rattle.paper.proofs.Greatest.{greatest-is, root-scale, greatest-scale}
 
 -- ---- I is some number N times the conjugate of the divisor, so the square of its absolute value is N's times D

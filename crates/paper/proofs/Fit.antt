@@ -15,7 +15,8 @@ use Rattle.paper.specs.Label.{formed}
 use Rattle.paper.specs.Kind.{isZero, sameOhms, partOver, record-1, later, Rule, z1≠0, z2≠0, z1=z2, kinds, known, kindOf, standsAt, holds, allHold}
 use Rattle.paper.specs.Refusal.{kindWrong, impedanceWrong}
 use Rattle.lemmas.proofs.Bools.{bothT, both, neither}
-use Rattle.paper.proofs.Impedance.{AtMost, not-over}
+use Rattle.paper.specs.Bounds.{AtMost}
+use Rattle.paper.proofs.Impedance.{not-over}
 use Rattle.paper.proofs.Lists.{On, on-none, on-cases}
 
 -- ---- the kind table, column by column

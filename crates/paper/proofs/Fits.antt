@@ -20,7 +20,7 @@ use Rattle.paper.specs.Fault.{Seq}
 use Rattle.paper.specs.Phase.{Asked, theD, theI, voltage, onlyIf, current, phase, four, phases, faultCurrents, boardVoltages, recordCurrents}
 use Rattle.paper.specs.Answer.{flat, ofBoard, ofBoards, numbers}
 use Rattle.paper.proofs.Row.{EachSeq}
-use Rattle.paper.proofs.Impedance.{AtMost}
+use Rattle.paper.specs.Bounds.{AtMost}
 use Rattle.paper.proofs.Plane.{Plane, plane-whole, plane-weak}
 use Rattle.paper.proofs.Shared.{shared1-small, shared2-small, shared0-small}
 use Rattle.paper.proofs.Sizes.{Ranged, mostD, mostI, mostW, D-most, currents-plane, voltageOf-plane, shows-fits}

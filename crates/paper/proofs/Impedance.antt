@@ -1,13 +1,14 @@
 -- Impedances in counts: bounds of their parts, and when a sum is zero. Assumes nothing.
 use mathlib.Core.Bool.{true, false}
 use mathlib.Core.Path.{_≡_}
-use Prim.Native.Nat.{ℕ, _≤_}
+use Prim.Native.Nat.{ℕ}
 use native.Mathlib.Nat.{add-zero}
 use native.Mathlib.Omega.{arith}
 use lib.Dec.{ltb, eqb}
 use borrow.Author.Tests.{ltb-false, eqb-true}
 use Rattle.paper.specs.declared.Ohms.{Ohms}
 use Rattle.paper.specs.Kind.{ohms, _+Ω_, isZero, partOver}
+use Rattle.paper.specs.Bounds.{AtMost}
 use Rattle.lemmas.proofs.Bools.{both, neither}
 
 pub add-nothing : (a : Ohms) → a +Ω ohms 0 0 ≡ a
@@ -15,10 +16,6 @@ unfolding _+Ω_
 add-nothing a = simp add-zero
 
 -- ---- no part over
-pub record AtMost (most : ℕ) (z : Ohms) : Type 0 where
-  pub r-most : z .r ≤ most
-  pub x-most : z .x ≤ most
-
 pub not-over : (most : ℕ) (z : Ohms) → partOver most z ≡ false → AtMost most z
 unfolding partOver
 not-over most z h =

@@ -12,7 +12,8 @@ use Rattle.paper.specs.Bytes.{oneOf}
 use Rattle.paper.specs.Kind.{_+Ω_, isZero}
 use Rattle.paper.specs.Chain.{empty, lastOf, sumΩ, common}
 use Rattle.lemmas.proofs.Bools.{either, untrue, not-both}
-use Rattle.paper.proofs.Impedance.{AtMost, add-nothing, zero-terms}
+use Rattle.paper.specs.Bounds.{AtMost}
+use Rattle.paper.proofs.Impedance.{add-nothing, zero-terms}
 
 -- ---- what is on a list
 abbrev pub On : ℕ → List ℕ → Type 0

@@ -11,7 +11,7 @@ use Rattle.turn.proofs.Within.{within-weak, within-add}
 use Rattle.paper.specs.declared.Ohms.{Ohms}
 use Rattle.paper.specs.Fault.{numOf, Seq}
 use Rattle.paper.proofs.Row.{EachSeq, GOf, rowOf}
-use Rattle.paper.proofs.Impedance.{AtMost}
+use Rattle.paper.specs.Bounds.{AtMost}
 use Rattle.paper.proofs.Plane.{Plane, plane-num, plane-whole, plane-add, plane-mul, plane-conj, plane-turn, addable, negatable, turnable, squarable, factors}
 use Rattle.paper.proofs.Sizes.{Ranged, mostD, mostI, mostW, plane-one, G-plane, divisor-plane, above-plane, drop-plane, sum-within}
 

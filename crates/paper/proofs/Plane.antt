@@ -16,7 +16,7 @@ use Rattle.turn.proofs.Within.{within-weak, within-add, within-neg, within-comp
 use Rattle.paper.specs.declared.Ohms.{Ohms}
 use Rattle.paper.specs.Kind.{partOver}
 use Rattle.paper.specs.Fault.{numOf}
-use Rattle.paper.proofs.Impedance.{AtMost}
+use Rattle.paper.specs.Bounds.{AtMost}
 use Rattle.paper.proofs.Flat.{Flat, flat-is, flat-complex, flat-add, flat-neg, flat-mul, flat-conj}
 
 -- R + jX with R and X at most b from 0

@@ -5,7 +5,8 @@ use mathlib.Core.Option.{Option, none, some}
 use mathlib.Core.Path.{_≡_, refl, ap, subst}
 use Prim.Native.Nat.{ℕ}
 use Rattle.paper.specs.declared.Part.{Part}
-use Rattle.paper.specs.Rows.{Test, test, Row, row, rowsAt, Refusal, first, _then_}
+use Rattle.paper.specs.declared.Refusal.{Refusal}
+use Rattle.paper.specs.Rows.{Test, test, Row, row, rowsAt, first, _then_}
 
 some-none : {r : Refusal} → some r ≡ none → ⊥
 some-none e = subst Is e tt

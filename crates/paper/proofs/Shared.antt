@@ -6,7 +6,7 @@ use Prim.Native.Nat.{ℕ, suc}
 use Rattle.paper.specs.Bytes.{oneOf}
 use Rattle.paper.specs.Kind.{ohms, Term, starts, goes-on, none}
 use Rattle.paper.specs.Chain.{Boards, feederOf, chain, zeroOf, zeroChain, unearthed, startsAt, sumΩ, term1, term2, term0, Z1, Z2, Z0, common, shared1, shared2, shared0}
-use Rattle.paper.proofs.Impedance.{AtMost}
+use Rattle.paper.specs.Bounds.{AtMost}
 use Rattle.paper.proofs.Lists.{On, nothing-on, common-skip, common-small}
 use Rattle.paper.proofs.Paths.{common-on, common-apart}
 use Rattle.paper.proofs.Chain.{chain-none, chain-board, chain-goes, zero-none, zero-goes, is-starts, is-goes-on, is-cut, is-blocked}

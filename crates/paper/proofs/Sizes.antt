@@ -22,7 +22,7 @@ use Rattle.paper.specs.Fault.{nilN, numOf, Seq, seq, G, Δ, shorts, shor
 use Rattle.paper.specs.Phase.{shows}
 use Rattle.paper.proofs.Row.{EachSeq, each-row, GOf, ΔOf, rowOf, DOf, IOf}
 use Rattle.paper.proofs.Square.{earthed, sq, dot, sqΔ, real-Δ, each-D}
-use Rattle.paper.proofs.Impedance.{AtMost}
+use Rattle.paper.specs.Bounds.{AtMost}
 use Rattle.paper.proofs.Plane.{Plane, plane-num, plane-whole, plane-weak, plane-add, plane-neg, plane-sub, plane-mul, plane-conj, plane-turn}
 
 -- ---- the bounds

@@ -14,7 +14,8 @@ use Rattle.paper.specs.Kind.{isZero, partOver}
 use Rattle.paper.specs.Chain.{Boards, board, placeOf, feederOf, chain, term1, term2, Z1, Z2, Z0, turnOf}
 use Rattle.paper.specs.Refusal.{feederWrong, sumWrong, boardTests}
 use Rattle.lemmas.proofs.Bools.{neither, same-by}
-use Rattle.paper.proofs.Impedance.{AtMost, not-over}
+use Rattle.paper.specs.Bounds.{AtMost}
+use Rattle.paper.proofs.Impedance.{not-over}
 use Rattle.paper.proofs.Lists.{On, on-here, on-there, sum-not-zero}
 use Rattle.paper.proofs.Places.{same-label, look-here, place-first, place-stays, place-behind}
 use Rattle.paper.proofs.Chain.{feeder-earlier, along, chain-board, turn-none, turn-board}

@@ -6,7 +6,7 @@ use lib.IntN.{ℤ}
 use lib.ListN.{length, drop}
 use Rattle.turn.specs.Number.{_+N_, negN, _·N_, timesT, _*N_, powerN, conjN, squareN}
 use Rattle.paper.specs.declared.Answer.{Answer}
-use Rattle.paper.specs.Rows.{Refusal}
+use Rattle.paper.specs.declared.Refusal.{Refusal}
 use Rattle.paper.specs.Refusal.{refusal, theRecord, answerSize}
 use Rattle.paper.specs.Phase.{Asked, asked, theD, faultCurrents, boardVoltages, recordCurrents}
 use Rattle.paper.specs.Amps.{amps}
@@ -56,7 +56,7 @@ accepted q = record { amps = amps q; part = theRecord (q .k); place = q .k; n = 
 
 -- "Refused: number, place, N = 0, amps = 0"
 unfoldable pub refused : Refusal → Answer
-refused r = record { amps = 0; part = r .shows; place = r .place; n = 0; number = r .no }
+refused r = record { amps = 0; part = r .part; place = r .place; n = 0; number = r .number }
 
 unfoldable pub answer : Option Refusal → Asked → Answer
 answer none q = accepted q

@@ -15,3 +15,5 @@ pub mod Amps
 pub mod Rows
 pub mod Refusal
 pub mod Answer
+-- what contracts ask of impedances
+pub mod Bounds

@@ -12,7 +12,8 @@ use Rattle.paper.specs.declared.Lent.{Lent}
 use Rattle.paper.specs.declared.Lent.the-variants.{NetworkBytes, FaultBytes}
 use Rattle.paper.specs.declared.Part.{Part}
 use Rattle.paper.specs.Bytes.{sameBytes, oneOf, within, part}
-use Rattle.paper.specs.Rows.{Test, test, Row, row, rowsAt, Refusal, first, _then_}
+use Rattle.paper.specs.declared.Refusal.{Refusal}
+use Rattle.paper.specs.Rows.{Test, test, Row, row, rowsAt, first, _then_}
 use Rattle.paper.specs.Label.{spaces, formed}
 use Rattle.paper.specs.Kind.{partOver, kindOf, known, standsAt, allHold}
 use Rattle.paper.specs.File.{markOf, HD, BD, FT, headOf, headSize, boardOf, boardSize, faultOf, faultSize, startOf, recordsOf, boardsOf}

@@ -4,6 +4,7 @@ use mathlib.Core.List.{List, [], _∷_}
 use mathlib.Core.Option.{Option, none, some}
 use Prim.Native.Nat.{ℕ}
 use Rattle.paper.specs.declared.Part.{Part}
+use Rattle.paper.specs.declared.Refusal.{Refusal}
 
 -- a rule: its number, and whether it is broken
 pub data Test : Type 0 where
@@ -13,12 +14,6 @@ pub data Test : Type 0 where
 pub data Row : Type 0 where
   row : ℕ → Bool → ℕ → Part → Row
 
--- what a refusal says
-pub record Refusal : Type 0 where
-  pub no : ℕ
-  pub place : ℕ
-  pub shows : Part
-
 -- rules that share a place and a part
 unfoldable pub rowsAt : ℕ → Part → List Test → List Row
 rowsAt p s [] = []
@@ -27,7 +22,7 @@ rowsAt p s (test n b ∷ ts) = row n b p s ∷ rowsAt p s ts
 -- "Tested in this order": the first row that tests true
 unfoldable pub first : List Row → Option Refusal
 first [] = none
-first (row n b p s ∷ rest) = let later = first rest in cond b (some (record { no = n; place = p; shows = s })) later
+first (row n b p s ∷ rest) = let later = first rest in cond b (some (record { part = s; place = p; number = n })) later
 
 infixr 20 _then_
 unfoldable pub _then_ : Option Refusal → Option Refusal → Option Refusal

@@ -46,6 +46,13 @@ pub struct Part {
     pub len: usize,
 }
 
+// The first rule that was broken: its number, the place that it names, the bytes that it shows.
+pub struct Refusal {
+    pub part: Part,
+    pub place: u16,
+    pub number: u8,
+}
+
 // What a call returns.
 pub struct Answer {
     pub amps: u64,
