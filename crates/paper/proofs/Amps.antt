@@ -20,7 +20,8 @@ use Rattle.wide.proofs.Laws.{root-unique}
 use Rattle.paper.specs.declared.Ohms.{Ohms}
 use Rattle.paper.specs.Kind.{isZero}
 use Rattle.paper.specs.Chain.{Z1, Z2, Z0}
-use Rattle.paper.specs.Fault.{numOf, Seq, seq, shorts, shortOf, currents}
+use Rattle.paper.specs.declared.Seq.{Seq}
+use Rattle.paper.specs.Fault.{numOf, seq, shorts, shortOf, currents}
 use Rattle.paper.specs.Phase.{Asked, theD, theI, shows}
 use Rattle.paper.specs.Amps.{greatest, said, saidSquare, ampsOver, ampsUnder, amps}
 use Rattle.paper.proofs.Flat.{flat-num, flat-add, flat-neg, flat-square}

@@ -17,7 +17,8 @@ use Rattle.turn.proofs.Ring.{Nring}
 use Rattle.turn.proofs.Cancel.{cancel-complex}
 use Rattle.paper.specs.declared.Ohms.{Ohms}
 use Rattle.paper.specs.Kind.{_+Ω_, isZero}
-use Rattle.paper.specs.Fault.{nilN, numOf, Seq, G, Δ, shorts, shortOf, D, currents}
+use Rattle.paper.specs.declared.Seq.{Seq}
+use Rattle.paper.specs.Fault.{nilN, numOf, G, Δ, shorts, shortOf, D, currents}
 use Rattle.paper.specs.Chain.{Z1, Z2, Z0}
 use Rattle.paper.specs.Phase.{Asked, theD}
 use Rattle.paper.proofs.Flat.{Flat, flat-is, flat-complex, flat-num, flat-add, flat-neg, flat-mul, flat-square}

@@ -16,7 +16,7 @@ use Rattle.turn.specs.Bounds.{Within}
 use Rattle.turn.proofs.Within.{within-weak}
 use Rattle.paper.specs.Bytes.{oneOf}
 use Rattle.paper.specs.Chain.{chain, zeroChain, Z1, Z2, Z0, shared1, shared2, shared0, turnOf}
-use Rattle.paper.specs.Fault.{Seq}
+use Rattle.paper.specs.declared.Seq.{Seq}
 use Rattle.paper.specs.Phase.{Asked, theD, theI, voltage, onlyIf, current, phase, four, phases, faultCurrents, boardVoltages, recordCurrents}
 use Rattle.paper.specs.Answer.{flat, ofBoard, ofBoards, numbers}
 use Rattle.paper.proofs.Row.{EachSeq}

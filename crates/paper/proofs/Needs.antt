@@ -9,7 +9,8 @@ use Rattle.turn.specs.Number.{wholeN, oneN, _+N_, _*N_, turnN, conjN}
 use Rattle.turn.specs.Bounds.{Addable, Negatable, Turnable, Squarable, Factors}
 use Rattle.turn.proofs.Within.{within-weak, within-add}
 use Rattle.paper.specs.declared.Ohms.{Ohms}
-use Rattle.paper.specs.Fault.{numOf, Seq}
+use Rattle.paper.specs.declared.Seq.{Seq}
+use Rattle.paper.specs.Fault.{numOf}
 use Rattle.paper.proofs.Row.{EachSeq, GOf, rowOf}
 use Rattle.paper.specs.Bounds.{AtMost}
 use Rattle.paper.proofs.Plane.{Plane, plane-num, plane-whole, plane-add, plane-mul, plane-conj, plane-turn, addable, negatable, turnable, squarable, factors}

@@ -4,7 +4,8 @@ use lib.IntN.{ℤ}
 use Rattle.turn.specs.declared.Num.{Num}
 use Rattle.turn.specs.Number.{oneN, _+N_, negN}
 use Rattle.paper.specs.declared.Ohms.{Ohms}
-use Rattle.paper.specs.Fault.{nilN, numOf, Seq, seq, Short, G, Δ, shorts, shortOf, D, currents}
+use Rattle.paper.specs.declared.Seq.{Seq}
+use Rattle.paper.specs.Fault.{nilN, numOf, seq, Short, G, Δ, shorts, shortOf, D, currents}
 
 -- what holds of each sequence
 pub record EachSeq (P : Num → Type 0) (s : Seq) : Type 0 where

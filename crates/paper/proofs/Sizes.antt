@@ -18,7 +18,8 @@ use Rattle.turn.proofs.Powers.{turn-add}
 use Rattle.turn.proofs.Within.{within-weak, within-add}
 use Rattle.paper.specs.declared.Ohms.{Ohms}
 use Rattle.paper.specs.Kind.{_+Ω_}
-use Rattle.paper.specs.Fault.{nilN, numOf, Seq, seq, G, Δ, shorts, shortOf, currents}
+use Rattle.paper.specs.declared.Seq.{Seq}
+use Rattle.paper.specs.Fault.{nilN, numOf, seq, G, Δ, shorts, shortOf, currents}
 use Rattle.paper.specs.Phase.{shows}
 use Rattle.paper.proofs.Row.{EachSeq, each-row, GOf, ΔOf, rowOf, DOf, IOf}
 use Rattle.paper.proofs.Square.{earthed, sq, dot, sqΔ, real-Δ, each-D}

@@ -9,7 +9,7 @@ use Rattle.turn.specs.declared.Num.{Num}
 use Rattle.turn.specs.Number.{_+N_, _*N_, conjN}
 use Rattle.paper.specs.declared.Head.{Head}
 use Rattle.paper.specs.declared.Fault.{Fault}
-use Rattle.paper.specs.Fault.{Seq}
+use Rattle.paper.specs.declared.Seq.{Seq}
 use Rattle.paper.specs.Phase.{Asked, theD, theI, shows}
 
 -- the greatest n with n·n ≤ m, for m below 4 to the number of digits: a binary digit at a time

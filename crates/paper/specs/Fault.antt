@@ -6,6 +6,7 @@ use lib.ListN.{getD}
 use Rattle.turn.specs.declared.Num.{Num}
 use Rattle.turn.specs.Number.{wholeN, complexN, oneN, _+N_, negN, _*N_, conjN, squareN}
 use Rattle.paper.specs.declared.Ohms.{Ohms}
+use Rattle.paper.specs.declared.Seq.{Seq}
 
 abbrev pub nilN : Num
 nilN = wholeN (pos 0)
@@ -15,11 +16,6 @@ unfoldable pub numOf : Ohms → Num
 numOf z = complexN (pos (z .r)) (pos (z .x))
 
 -- positive, negative and zero sequence
-pub record Seq : Type 0 where
-  pub s1 : Num
-  pub s2 : Num
-  pub s0 : Num
-
 abbrev pub seq : Num → Num → Num → Seq
 seq a b c = record { s1 = a; s2 = b; s0 = c }
 

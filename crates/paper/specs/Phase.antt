@@ -10,7 +10,8 @@ use Rattle.paper.specs.declared.Fault.{Fault}
 use Rattle.paper.specs.Bytes.{oneOf}
 use Rattle.paper.specs.File.{headOf, faultOf, boardsOf}
 use Rattle.paper.specs.Chain.{Boards, placeOf, chain, zeroChain, Z1, Z2, Z0, shared1, shared2, shared0, turnOf}
-use Rattle.paper.specs.Fault.{nilN, numOf, Seq, seq, D, currents}
+use Rattle.paper.specs.declared.Seq.{Seq}
+use Rattle.paper.specs.Fault.{nilN, numOf, seq, D, currents}
 
 -- ---- a question: a network and a fault, decoded, with the faulted board's place
 pub record Asked : Type 0 where

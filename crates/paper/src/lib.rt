@@ -1,4 +1,5 @@
 // The files and the answer of the paper, as the crates above pass them to each other. No functions: what each field means stands in specs/.
+use turn::Num;
 
 // An impedance, in counts.
 pub struct Ohms {
@@ -31,6 +32,13 @@ pub struct Fault {
     pub label: [u8; 12],
     pub kind: u8,
     pub phase: u8,
+}
+
+// A current or a voltage in its three sequences: positive, negative, zero.
+pub struct Seq {
+    pub s1: Num,
+    pub s2: Num,
+    pub s0: Num,
 }
 
 // The bytes that a call is lent.
