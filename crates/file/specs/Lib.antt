@@ -1,0 +1,3 @@
+-- What the contracts of this crate cite besides the paper's definitions.
+pub mod Words
+pub mod Zero

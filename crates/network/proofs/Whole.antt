@@ -1,0 +1,69 @@
+-- The network, accepted or refused: each return of the reader is what the paper says. Assumes nothing.
+use mathlib.Core.List.{List, []}
+use mathlib.Core.Option.{Option, none, some}
+use mathlib.Core.Path.{_≡_, refl, sym, _∙_, ap}
+use Prim.Native.Nat.{ℕ, zero, suc, _+_, _*_, _-_, _≤_, _<_}
+use native.Mathlib.Omega.{arith}
+use lib.ListN.{length, take}
+use lib.Seq.{take-at}
+use Rattle.paper.specs.declared.Head.{Head}
+use Rattle.paper.specs.declared.Board.{Board}
+use Rattle.paper.specs.declared.Refusal.{Refusal}
+use Rattle.paper.specs.declared.Lent.the-variants.{NetworkBytes}
+use Rattle.paper.specs.Bytes.{part}
+use Rattle.paper.specs.Rows.{first, _then_}
+use Rattle.paper.specs.File.{headOf, recordsOf, boardsOf}
+use Rattle.paper.specs.Refusal.{headRows, recordsRefusal, networkRefusal}
+use Rattle.network.specs.declared.Node.{Node}
+use Rattle.network.specs.declared.Judged.{Judged}
+use Rattle.network.specs.declared.Network.{Network}
+use Rattle.network.specs.declared.Outcome.the-variants.{Accepted}
+use Rattle.network.specs.Network.{table, emptyBoard, headNumber, Judgement, refusedNetwork, acceptedNetwork, judged, networkOf}
+use Rattle.network.proofs.Records.{count, boards-count}
+use Rattle.network.proofs.Head.{too-short, head-broken, head-kept}
+
+module _ (s : List ℕ) where
+  by-refusal : {r : Refusal} → networkRefusal s ≡ some r → refusedNetwork r ≡ networkOf s
+  unfolding networkOf judged
+  by-refusal e = ap (λ (o : Option Refusal). judged o s) (sym e)
+
+  by-head : {r : Refusal} → first (headRows s) ≡ some r → networkRefusal s ≡ some r
+  unfolding networkRefusal _then_
+  by-head e = ap (λ (o : Option Refusal). o then recordsRefusal [] (recordsOf s)) e
+
+  by-records : headNumber s ≡ 0 → networkRefusal s ≡ recordsRefusal [] (recordsOf s)
+  unfolding networkRefusal _then_
+  by-records e = ap (λ (o : Option Refusal). o then recordsRefusal [] (recordsOf s)) (head-kept s e)
+
+  -- ---- the four returns, from the facts in the shape in which the branches have them
+  module _ {b : ℕ} (b-is : b ≡ headNumber s) where
+    pub read-short : {n : Network} → b ≡ 1 → n ≡ refusedNetwork (record { part = part NetworkBytes 0 (length s); place = 0; number = 1 }) → n ≡ networkOf s
+    read-short h e = e ∙ by-refusal (by-head (too-short s (sym b-is ∙ h)))
+
+    pub read-head : {n : Network} → (b ≡ 1 → ⊥) → (b ≡ 0 → ⊥) → n ≡ refusedNetwork (record { part = part NetworkBytes 0 8; place = 0; number = b }) → n ≡ networkOf s
+    read-head f g e = e ∙ by-refusal (by-head (head-broken s b more (sym b-is)))
+      where
+        more : 1 < b
+        more = omega arith
+
+    module _ {j : Judged} (h : b ≡ 0) (judgement : Judgement s j) where
+      pub read-refused : {n : Network} → (j .number ≡ 0 → ⊥) → n ≡ refusedNetwork (record { part = part NetworkBytes (8 + 44 * (j .place - 1)) 44; place = j .place; number = j .number }) → n ≡ networkOf s
+      read-refused {n} f e = go (j .number) refl
+        where
+          go : (m : ℕ) → j .number ≡ m → n ≡ networkOf s
+          go zero z = absurd (f z)
+          go (suc m) z =
+              e ∙ ap (λ (k : ℕ). refusedNetwork (record { part = part NetworkBytes (8 + 44 * (j .place - 1)) 44; place = j .place; number = k })) z
+              ∙ by-refusal (by-records (sym b-is ∙ h) ∙ judgement .first-broken m z)
+
+      pub read-accepted : {d : Head} {bs : List Board} → j .number ≡ 0 → d ≡ headOf s → bs ≡ table emptyBoard (boardsOf s)
+          → _≡_ {A = Network} (record { outcome = Accepted; head = d; boards = bs; nodes = j .nodes }) (networkOf s)
+      unfolding networkOf judged
+      read-accepted z de be =
+          let k = judgement .all-kept z in
+          (λ i. record { outcome = Accepted; head = de i; boards = be i; nodes = k .1 i }) ∙ ap (λ (o : Option Refusal). judged o s) (sym (by-records (sym b-is ∙ h) ∙ k .0))
+
+-- the first n of the table are the boards
+pub first-boards : (s : List ℕ) {n : ℕ} {t : List Board} → n ≡ count s → t ≡ table emptyBoard (boardsOf s) → take n t ≡ boardsOf s
+unfolding table
+first-boards s {n} e f = ap (take n) f ∙ take-at (boardsOf s) _ n (boards-count s ∙ sym e)

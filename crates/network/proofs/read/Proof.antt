@@ -1,0 +1,110 @@
+-- `network::read` meets its contract: the head is refused, a record is refused, or all are kept. Assumes nothing.
+use mathlib.Core.Path.{_≡_, sym, _∙_, ap}
+use Prim.Native.Nat.{ℕ, _+_, _*_, _≤_}
+use native.Mathlib.Omega.{arith}
+use Rattle.paper.specs.declared.Head.{Head}
+use Rattle.search.specs.Places.{placesOf}
+use Rattle.network.proofs.Head.{HeadKept, kept-head}
+use Rattle.network.proofs.Whole.{read-short, read-head, read-refused, read-accepted, first-boards}
+use borrow.Author.Needs.{needs}
+use Rattle.network.proofs.read.Statement.{statement}
+use Rattle.network.proofs.read.Tie as tie
+use Rattle.network.proofs.read.Reads as reads
+use Rattle.network.proofs.read.Lts as lts
+use Rattle.file.proofs.bytes.head_of.Reads as head-of-reads
+use Rattle.network.proofs.head_number.Reads as head-number-reads
+use Rattle.network.proofs.judge.judge.Reads as judge-reads
+use Rattle.network.proofs.refused.Reads as refused-reads
+use Rattle.network.proofs.table.decode.Reads as decode-reads
+use Rattle.search.proofs.lookup_all.Reads as lookup-all-reads
+
+head-number-requires : tie.Need-head-number-requires
+head-number-requires c κs = search needs
+
+refused-requires : tie.Need-refused-requires
+refused-requires c κs = search needs
+
+returns : tie.Need-returns
+returns c = read-short _ (c .before .before .head-number .ensures) (c .before .if1 .taken) (c .refused .ensures)
+
+refused-requires-2 : tie.Need-refused-requires-2
+refused-requires-2 c κs = search needs
+
+returns-2 : tie.Need-returns-2
+returns-2 c =
+    let e = c .before .before in
+    read-head _ (e .before .head-number .ensures) (e .if1 .left) (c .before .if2 .taken) (c .refused2 .ensures)
+
+head-of-requires : tie.Need-head-of-requires
+head-of-requires c κs = kept-head _ (sym (c .before .before .head-number .ensures) ∙ c .if2 .left) .long
+
+cast-n : tie.Need-cast-n
+cast-n c = search needs
+
+decode-requires : tie.Need-decode-requires
+decode-requires c κs =
+    let e = c .before .before in
+    let k = kept-head _ (sym (e .before .before .head-number .ensures) ∙ e .if2 .left) in
+    let n = ap (λ (h : Head). h .boards) (c .before .head-of .ensures) in
+    (n, omega (arith, k .few, n), k .size ∙ ap (λ (m : ℕ). 8 + 44 * m) (sym n))
+
+lookup-all-requires : tie.Need-lookup-all-requires
+lookup-all-requires c κs =
+    let e = c .before .before .before in
+    let k = kept-head _ (sym (e .before .before .head-number .ensures) ∙ e .if2 .left) in
+    let n = ap (λ (h : Head). h .boards) (c .before .before .head-of .ensures) in
+    omega (arith, k .few, n)
+
+judge-requires : tie.Need-judge-requires
+judge-requires c κs =
+    let e = c .before .before .before .before in
+    let k = kept-head _ (sym (e .before .before .head-number .ensures) ∙ e .if2 .left) in
+    let n = ap (λ (h : Head). h .boards) (c .before .before .before .head-of .ensures) in
+    let b = c .before .decode .ensures in
+    (n, omega (arith, k .few, n), k .size ∙ ap (λ (m : ℕ). 8 + 44 * m) (sym n), b, c .lookup-all .ensures ∙ ap placesOf (first-boards _ n b))
+
+cast-refused : tie.Need-cast-refused
+cast-refused c = search needs
+
+sub-refused : tie.Need-sub-refused
+sub-refused c = c .before .judge .ensures .placed (c .if3 .taken)
+
+mul-refused : tie.Need-mul-refused
+mul-refused c = search needs
+
+add-refused : tie.Need-add-refused
+add-refused c = search needs
+
+refused-requires-3 : tie.Need-refused-requires-3
+refused-requires-3 c κs = search needs
+
+returns-3 : tie.Need-returns-3
+returns-3 c =
+    let j = c .before .before in
+    let e = j .before .before .before .before .before in
+    read-refused _ (e .before .before .head-number .ensures) (e .if2 .left) (j .judge .ensures) (c .before .if3 .taken) (c .refused3 .ensures)
+
+returns-4 : tie.Need-returns-4
+returns-4 c = search (read-accepted, needs)
+
+pub read-spec : {M : Type 1} → statement M
+read-spec =
+    tie.close
+    (tie.spec
+    head-number-requires
+    refused-requires
+    returns
+    refused-requires-2
+    returns-2
+    head-of-requires
+    cast-n
+    decode-requires
+    lookup-all-requires
+    judge-requires
+    cast-refused
+    sub-refused
+    mul-refused
+    add-refused
+    refused-requires-3
+    returns-3
+    returns-4)

@@ -1,0 +1,23 @@
+-- `network::refused` meets its contract: the tables are empty. Assumes nothing.
+use Rattle.network.specs.Node.{noNode}
+use Rattle.network.specs.Network.{emptyBoard}
+use Rattle.network.proofs.Tables.{empty-table, refused-is}
+use borrow.Author.Needs.{needs}
+use Rattle.network.proofs.refused.Statement.{statement}
+use Rattle.network.proofs.refused.Tie as tie
+use Rattle.network.proofs.refused.Reads as reads
+use Rattle.network.proofs.refused.Lts as lts
+use Rattle.network.proofs.sums.no_node.Reads as no-node-reads
+use Rattle.network.proofs.table.empty_board.Reads as empty-board-reads
+
+empty-board-requires : tie.Need-empty-board-requires
+empty-board-requires c κs = search needs
+
+no-node-requires : tie.Need-no-node-requires
+no-node-requires c κs = search needs
+
+returns : tie.Need-returns
+returns c = refused-is _ (empty-table emptyBoard (c .before .empty-board .ensures)) (empty-table noNode (c .no-node .ensures))
+
+pub refused-spec : {M : Type 1} → statement M
+refused-spec = tie.close (tie.spec empty-board-requires no-node-requires returns)

@@ -1,0 +1,24 @@
+-- `network::sums::node_over` meets its contract. Assumes nothing.
+use Rattle.network.specs.Rules.{nodeOver}
+use borrow.Author.Needs.{needs}
+use Rattle.network.proofs.sums.node_over.Statement.{statement}
+use Rattle.network.proofs.sums.node_over.Tie as tie
+use Rattle.network.proofs.sums.node_over.Reads as reads
+use Rattle.network.proofs.sums.node_over.Lts as lts
+use Rattle.file.proofs.ohms.over.Reads as over-reads
+
+over-requires : tie.Need-over-requires
+over-requires c κs = search needs
+
+over-requires-2 : tie.Need-over-requires-2
+over-requires-2 c κs = search needs
+
+over-requires-3 : tie.Need-over-requires-3
+over-requires-3 c κs = search needs
+
+returns : tie.Need-returns
+unfolding nodeOver
+returns c = cc
+
+pub node-over-spec : {M : Type 1} → statement M
+node-over-spec = tie.close (tie.spec over-requires over-requires-2 over-requires-3 returns)

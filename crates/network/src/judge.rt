@@ -1,0 +1,60 @@
+// The records, judged in file order: "5 to 11 are all tried on one record before the next."
+ghost use mathlib.Core.Path.{_≡_};
+ghost use Prim.Native.Nat.{_+_, _*_, _≤_};
+ghost use lib.ListN.{length};
+ghost use Rattle.paper.specs.File.{headOf, boardsOf};
+ghost use Rattle.search.specs.Places.{placesOf};
+ghost use Rattle.network.specs.Network.{table, emptyBoard, Judgement};
+use super::Judged;
+use super::rules::earlier;
+use super::rules::step;
+use super::sums::no_node;
+use file::bytes::u16_at;
+use paper::Board;
+use search::Places;
+
+fn wide(x: u16) -> usize
+    ensures { λ r. ⌜ r ≡ x ⌝ }
+{
+    x as usize
+}
+
+pub(super) fn judge(net: &[u8], n: usize, boards: [Board; 256], places: Places) -> Judged
+    requires { ⌜ (n ≡ headOf (now net) .boards) × (n ≤ 256) × (length (now net) ≡ 8 + 44 * n) × (boards ≡ table emptyBoard (boardsOf (now net))) × (places ≡ placesOf (boardsOf (now net))) ⌝ }
+    ensures { λ r. ⌜ Judgement (now (net .entry)) r ⌝ }
+{
+    let none = no_node();
+    let own = places.own;
+    let fed = places.fed;
+    let mut nodes = [none; 256];
+    let mut i: usize = 0;
+    while i < n {
+        let r = i + 1;
+        let mark = u16_at(net, 8 + 44 * i);
+        let b = boards[i];
+        let mine = wide(own[i]);
+        let theirs = wide(fed[i]);
+        let feeder = earlier(r, theirs);
+        let mut up = none;
+        if feeder != 0 {
+            up = nodes[feeder - 1];
+        }
+        let s = step(r, mark, b, mine, theirs, up);
+        let number = s.number;
+        if number != 0 {
+            return Judged {
+                nodes,
+                place: r as u16,
+                number,
+            };
+        }
+        let node = s.node;
+        nodes[i] = node;
+        i += 1;
+    }
+    Judged {
+        nodes,
+        place: 0,
+        number: 0,
+    }
+}

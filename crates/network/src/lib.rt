@@ -1,0 +1,140 @@
+// A network, read: accepted with what each board gets from its chain, or refused by the first rule that its bytes break.
+mod judge;
+mod rules;
+mod sums;
+mod table;
+
+ghost use mathlib.Core.Path.{_≡_};
+ghost use Rattle.paper.specs.Bytes.{part};
+ghost use Rattle.paper.specs.declared.Lent.the-variants.{NetworkBytes};
+ghost use Rattle.network.specs.Network.{refusedNetwork, networkOf, headNumber};
+use file::bytes::head_of;
+use file::bytes::u16_at;
+use file::head::head_wrong;
+use judge::judge;
+use paper::Board;
+use paper::Head;
+use paper::Lent;
+use paper::Ohms;
+use paper::Part;
+use paper::Refusal;
+use search::lookup_all;
+use sums::no_node;
+use table::decode;
+use table::empty_board;
+
+// What a board gets from its chain: sums, where its zero sequence starts (0: nowhere), its feeder (0: none), its turn.
+pub struct Node {
+    pub z1: Ohms,
+    pub z2: Ohms,
+    pub z0: Ohms,
+    pub feeder: u16,
+    pub start: u16,
+    pub turn: u16,
+}
+
+// A record judged: the number of the first broken rule of 5 to 11, or 0 and its node.
+struct Step {
+    node: Node,
+    number: u8,
+}
+
+// The records judged: the number and the place of the first that is refused, or 0, 0 and all nodes.
+struct Judged {
+    nodes: [Node; 256],
+    place: u16,
+    number: u8,
+}
+
+pub enum Outcome {
+    Accepted,
+    Refused(Refusal),
+}
+
+// The head and the tables are those of the network where it is accepted, and empty where it is refused.
+pub struct Network {
+    pub outcome: Outcome,
+    pub head: Head,
+    pub boards: [Board; 256],
+    pub nodes: [Node; 256],
+}
+
+fn refused(number: u8, place: u16, start: usize, len: usize) -> Network
+    ensures { λ r. ⌜ r ≡ refusedNetwork (record { part = part NetworkBytes start len; place = place; number = number }) ⌝ }
+{
+    let empty = empty_board();
+    let none = no_node();
+    let boards = [empty; 256];
+    let nodes = [none; 256];
+    let part = Part {
+        whose: Lent::NetworkBytes,
+        start,
+        len,
+    };
+    let why = Refusal {
+        part,
+        place,
+        number,
+    };
+    let head = Head {
+        volts: 0,
+        unit: 0,
+        boards: 0,
+    };
+    Network {
+        outcome: Outcome::Refused(why),
+        head,
+        boards,
+        nodes,
+    }
+}
+
+// 1 to 4: the number of the first that is broken, or 0.
+fn head_number(net: &[u8]) -> u8
+    ensures { λ r. ⌜ r ≡ headNumber (now (net .entry)) ⌝ }
+{
+    if net.len() < 8 {
+        return 1;
+    }
+    if u16_at(net, 0) != 17480 {
+        return 2;
+    }
+    let head = head_of(net);
+    if head_wrong(head) {
+        return 3;
+    }
+    let n = head.boards as usize;
+    if net.len() != 8 + 44 * n {
+        return 4;
+    }
+    0
+}
+
+pub fn read(net: &[u8]) -> Network
+    ensures { λ r. ⌜ r ≡ networkOf (now (net .entry)) ⌝ }
+{
+    let broken = head_number(net);
+    if broken == 1 {
+        return refused(1, 0, 0, net.len());
+    }
+    if broken != 0 {
+        return refused(broken, 0, 0, 8);
+    }
+    let head = head_of(net);
+    let n = head.boards as usize;
+    let boards = decode(net, n);
+    let places = lookup_all(boards, n);
+    let judged = judge(net, n, boards, places);
+    let number = judged.number;
+    let place = judged.place;
+    if number != 0 {
+        return refused(number, place, 8 + 44 * (place as usize - 1), 44);
+    }
+    let nodes = judged.nodes;
+    Network {
+        outcome: Outcome::Accepted,
+        head,
+        boards,
+        nodes,
+    }
+}

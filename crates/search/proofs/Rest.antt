@@ -1,0 +1,66 @@
+-- What a loop over the boards says of those from i on, and the numbers of a walk. No logic. Assumes nothing.
+use mathlib.Core.Path.{_≡_, refl, _∙_, ap}
+use mathlib.Core.Bool.{Bool, true, false, not}
+use mathlib.Core.List.{[], _∷_}
+use Prim.Native.Nat.{ℕ, zero, suc, _≤_, _<_, _+_, _*_, _-_, _^_}
+use native.Mathlib.Nat.{le-of-suc-le-suc, not-suc-le-zero}
+use native.Mathlib.Omega.{arith}
+use lib.Dec.{T as Holds}
+use lib.ListN.{length, getD, drop, drop-of-length-le}
+use Rattle.paper.specs.Label.{Label, sameLabel}
+use Rattle.paper.specs.Chain.{Boards, noBoard, lookFrom, placeOf}
+use Rattle.paper.proofs.Places.{look-here, look-there}
+
+-- ---- looking from i on
+drop-at : (ys : Boards) (i : ℕ) → i < length ys → drop i ys ≡ getD ys i noBoard ∷ drop (suc i) ys
+drop-at [] i l = absurd (not-suc-le-zero l)
+drop-at (y ∷ ys) zero l = refl
+drop-at (y ∷ ys) (suc i) l = drop-at ys i (le-of-suc-le-suc l)
+
+module _ (l : Label) (ys : Boards) (i : ℕ) where
+  -- none of the first i boards has the label
+  pub Passed : Type 0
+  Passed = placeOf l ys ≡ lookFrom (suc i) l (drop i ys)
+
+  pub passed-here : i < length ys → Passed → sameLabel l (getD ys i noBoard .label) ≡ true → placeOf l ys ≡ suc i
+  unfolding Passed
+  passed-here m h e = h ∙ ap (lookFrom (suc i) l) (drop-at ys i m) ∙ look-here (suc i) l (getD ys i noBoard) (drop (suc i) ys) e
+
+  pub passed-end : length ys ≤ i → Passed → placeOf l ys ≡ 0
+  unfolding Passed lookFrom
+  passed-end m h = h ∙ ap (lookFrom (suc i) l) (drop-of-length-le ys m)
+
+pub passed-none : (l : Label) (ys : Boards) → Passed l ys 0
+unfolding Passed
+passed-none l ys = refl
+
+pub passed-there : (l : Label) (ys : Boards) (i : ℕ) → i < length ys → Passed l ys i → sameLabel l (getD ys i noBoard .label) ≡ false → Passed l ys (suc i)
+unfolding Passed
+passed-there l ys i m h e = h ∙ ap (lookFrom (suc i) l) (drop-at ys i m) ∙ look-there (suc i) l (getD ys i noBoard) (drop (suc i) ys) e
+
+-- ---- numbers: a loop starts at 0, and a board takes 42 bytes
+pub start : _≡_ {A = ℕ} 0 0
+start = refl
+
+module _ (n i : ℕ) (l : i < n) where
+  pub offset-fits : n * 42 < 2 ^ 63 → i * 42 < 2 ^ 64
+  offset-fits g = omega arith
+
+  pub next-fits : n < 2 ^ 64 → i + 1 < 2 ^ 64
+  next-fits g = omega arith
+
+  pub fewer : n - suc i < n - i
+  fewer = omega arith
+
+-- ---- tests
+pub was : (t : Bool) → Holds t → t ≡ true
+was true _ = refl
+was false a = absurd a
+
+pub was-not : (t : Bool) → Holds (not t) → t ≡ false
+was-not true a = absurd a
+was-not false _ = refl
+
+pub by-test : {X : Type 1} (t : Bool) → (t ≡ true → X) → (t ≡ false → X) → X
+by-test true f g = f refl
+by-test false f g = g refl
