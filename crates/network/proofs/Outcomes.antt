@@ -4,6 +4,7 @@ use mathlib.Core.Path.{_≡_, refl, sym, _∙_, ap}
 use Prim.Native.Nat.{ℕ, _≤_, _<_}
 use lib.Dec.{leb, ltb, eqb}
 use borrow.Author.Tests.{lt-ltb, le-ltb, eq-eqb, ne-eqb}
+use Rattle.paper.specs.File.{BD}
 use Rattle.paper.specs.declared.Board.{Board}
 use Rattle.paper.specs.Bytes.{sameBytes}
 use Rattle.paper.specs.Label.{spaces, formed}
@@ -30,38 +31,38 @@ unfolding earlier
 earlier-out r fed h = simp (le-ltb fed r h)
 
 module _ (r : ℕ) (b : Board) (own fed : ℕ) {mark : ℕ} where
-  pub broken-5 : (mark ≡ 17474 → ⊥) → 5 ≡ broken r mark b own fed
+  pub broken-5 : (mark ≡ BD → ⊥) → 5 ≡ broken r mark b own fed
   unfolding broken numberOf
-  broken-5 h = simp (ne-eqb mark 17474 h)
+  broken-5 h = simp (ne-eqb mark BD h)
 
-  module _ {f : Bool} (h5 : mark ≡ 17474) (f-is : f ≡ formed (b .label)) where
+  module _ {f : Bool} (h5 : mark ≡ BD) (f-is : f ≡ formed (b .label)) where
     pub broken-6 : not f ≡ true → 6 ≡ broken r mark b own fed
     unfolding broken numberOf
-    broken-6 h6 = simp (eq-eqb mark 17474 h5, ← f-is, h6)
+    broken-6 h6 = simp (eq-eqb mark BD h5, ← f-is, h6)
 
     module _ (h6 : not f ≡ false) where
       pub broken-7 : (own ≡ r → ⊥) → 7 ≡ broken r mark b own fed
       unfolding broken numberOf
-      broken-7 h = simp (eq-eqb mark 17474 h5, ← f-is, h6, ne-eqb own r h)
+      broken-7 h = simp (eq-eqb mark BD h5, ← f-is, h6, ne-eqb own r h)
 
       module _ {g : Bool} (h7 : own ≡ r) (g-is : g ≡ fedWrong r b fed) where
         pub broken-8 : g ≡ true → 8 ≡ broken r mark b own fed
         unfolding broken numberOf
-        broken-8 h = simp (eq-eqb mark 17474 h5, ← f-is, h6, eq-eqb own r h7, ← g-is, h)
+        broken-8 h = simp (eq-eqb mark BD h5, ← f-is, h6, eq-eqb own r h7, ← g-is, h)
 
         module _ {k : Bool} (h8 : g ≡ false) (k-is : k ≡ kindWrong r b) where
           pub broken-9 : k ≡ true → 9 ≡ broken r mark b own fed
           unfolding broken numberOf
-          broken-9 h = simp (eq-eqb mark 17474 h5, ← f-is, h6, eq-eqb own r h7, ← g-is, h8, ← k-is, h)
+          broken-9 h = simp (eq-eqb mark BD h5, ← f-is, h6, eq-eqb own r h7, ← g-is, h8, ← k-is, h)
 
           module _ {z : Bool} (h9 : k ≡ false) (z-is : z ≡ impedanceWrong b) where
             pub broken-10 : z ≡ true → 10 ≡ broken r mark b own fed
             unfolding broken numberOf
-            broken-10 h = simp (eq-eqb mark 17474 h5, ← f-is, h6, eq-eqb own r h7, ← g-is, h8, ← k-is, h9, ← z-is, h)
+            broken-10 h = simp (eq-eqb mark BD h5, ← f-is, h6, eq-eqb own r h7, ← g-is, h8, ← k-is, h9, ← z-is, h)
 
             pub broken-0 : z ≡ false → 0 ≡ broken r mark b own fed
             unfolding broken numberOf
-            broken-0 h = simp (eq-eqb mark 17474 h5, ← f-is, h6, eq-eqb own r h7, ← g-is, h8, ← k-is, h9, ← z-is, h)
+            broken-0 h = simp (eq-eqb mark BD h5, ← f-is, h6, eq-eqb own r h7, ← g-is, h8, ← k-is, h9, ← z-is, h)
 
 -- ---- a record's step
 module _ (r mark : ℕ) (b : Board) (own fed : ℕ) (up : Node) {m : ℕ} (m-is : m ≡ broken r mark b own fed) where

@@ -13,6 +13,7 @@ use file::bytes::u16_at;
 use paper::Board;
 use search::Places;
 
+// A place as an index: a cast in a call of its own, so that the loop's proof carries none.
 fn wide(x: u16) -> usize
     ensures { λ r. ⌜ r ≡ x ⌝ }
 {

@@ -23,6 +23,9 @@ use sums::no_node;
 use table::decode;
 use table::empty_board;
 
+// The head's mark.
+const HD: u16 = 0x4448;
+
 // What a board gets from its chain: sums, where its zero sequence starts (0: nowhere), its feeder (0: none), its turn.
 pub struct Node {
     pub z1: Ohms,
@@ -96,7 +99,7 @@ fn head_number(net: &[u8]) -> u8
     if net.len() < 8 {
         return 1;
     }
-    if u16_at(net, 0) != 17480 {
+    if u16_at(net, 0) != HD {
         return 2;
     }
     let head = head_of(net);

@@ -14,6 +14,9 @@ use file::label::formed;
 use file::label::is_spaces;
 use paper::Board;
 
+// A board's mark.
+const BD: u16 = 0x4442;
+
 fn fed_wrong(r: usize, b: Board, fed: usize) -> bool
     ensures { λ w. ⌜ w ≡ fedWrong r b fed ⌝ }
 {
@@ -29,7 +32,7 @@ fn broken(r: usize, mark: u16, b: Board, own: usize, fed: usize) -> u8
     ensures { λ n. ⌜ n ≡ broken r mark b own fed ⌝ }
 {
     let label = b.label;
-    if mark != 17474 {
+    if mark != BD {
         return 5;
     }
     if !formed(label) {

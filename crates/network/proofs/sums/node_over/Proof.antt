@@ -3,9 +3,6 @@ use Rattle.network.specs.Rules.{nodeOver}
 use borrow.Author.Needs.{needs}
 use Rattle.network.proofs.sums.node_over.Statement.{statement}
 use Rattle.network.proofs.sums.node_over.Tie as tie
-use Rattle.network.proofs.sums.node_over.Reads as reads
-use Rattle.network.proofs.sums.node_over.Lts as lts
-use Rattle.file.proofs.ohms.over.Reads as over-reads
 
 over-requires : tie.Need-over-requires
 over-requires c κs = search needs
@@ -18,7 +15,7 @@ over-requires-3 c κs = search needs
 
 returns : tie.Need-returns
 unfolding nodeOver
-returns c = cc
+returns c = rw (c .before .before .over .ensures, c .before .over2 .ensures, c .over3 .ensures)
 
 pub node-over-spec : {M : Type 1} → statement M
 node-over-spec = tie.close (tie.spec over-requires over-requires-2 over-requires-3 returns)
