@@ -1,7 +1,7 @@
 -- The kind table read row by row, for each outcome of the code's tests of a kind. Assumes nothing.
 use mathlib.Core.Bool.{Bool, true, false, not, _&&_, _||_, Bool·beq, and-true, and-assoc, or-false}
 use mathlib.Core.List.{List, [], _∷_}
-use mathlib.Core.Path.{_≡_, refl, sym, _∙_}
+use mathlib.Core.Path.{_≡_, refl, sym, _∙_, ap}
 use Prim.Native.Nat.{ℕ, _%_, _≤_, _<_}
 use native.Mathlib.Omega.{arith}
 use lib.Dec.{T, ltb, eqb}
@@ -102,7 +102,7 @@ pub rules-at : (k : ℕ) (b : Board) {no1 no2 same no0 non : Bool} → b .kind �
     → no0 ≡ isZero (b .z0)
     → non ≡ isZero (b .zn)
     → getD (tests no1 no2 same no0 non) k true ≡ allHold (kindOf (b .kind) .rules) b
-rules-at k b e e1 e2 es e0 en = cc (rules b k)
+rules-at k b e e1 e2 es e0 en = (λ i. getD (tests (e1 i) (e2 i) (es i) (e0 i) (en i)) k true) ∙ rules b k ∙ ap (λ n. allHold (kindOf n .rules) b) (sym e)
 
 pub rules-none : (b : Board) → (b .kind ≡ 0 → ⊥) → (b .kind ≡ 1 → ⊥) → (b .kind ≡ 2 → ⊥) → (b .kind ≡ 3 → ⊥) → (b .kind ≡ 4 → ⊥) → (b .kind ≡ 5 → ⊥)
     → true ≡ allHold (kindOf (b .kind) .rules) b

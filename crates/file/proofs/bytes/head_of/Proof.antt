@@ -15,7 +15,9 @@ u16-at-requires-3 c κs = search needs
 
 returns : tie.Need-returns
 unfolding headOf
-returns c = cc
+returns c =
+    let unit = c .before in
+    λ i. record { volts = unit .before .u16-at .ensures i; unit = unit .u16-at2 .ensures i; boards = c .u16-at3 .ensures i }
 
 pub head-of-spec : {M : Type 1} → statement M
 head-of-spec = tie.close (tie.spec u16-at-requires u16-at-requires-2 u16-at-requires-3 returns)

@@ -13,7 +13,7 @@ u16-at-requires-2 : tie.Need-u16-at-requires-2
 u16-at-requires-2 c κs = search needs
 
 returns : tie.Need-returns
-returns c = cc
+returns c = λ i. record { r = c .before .u16-at .ensures i; x = c .u16-at2 .ensures i }
 
 pub ohms-at-spec : {M : Type 1} → statement M
 ohms-at-spec = tie.close (tie.spec u16-at-requires add-u16-at u16-at-requires-2 returns)

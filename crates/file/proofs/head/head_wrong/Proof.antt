@@ -1,4 +1,5 @@
 -- `file::head::head_wrong` meets its contract. Assumes nothing.
+use mathlib.Core.Bool.{not, _&&_}
 use borrow.Author.Needs.{needs}
 use Rattle.paper.specs.Refusal.{headRanges}
 use Rattle.file.proofs.head.head_wrong.Statement.{statement}
@@ -15,7 +16,9 @@ in-range-requires-3 c κs = search needs
 
 returns : tie.Need-returns
 unfolding headRanges
-returns c = cc
+returns c =
+    let unit = c .before in
+    λ i. not (unit .before .in-range .ensures i && unit .in-range2 .ensures i && c .in-range3 .ensures i)
 
 pub head-wrong-spec : {M : Type 1} → statement M
 head-wrong-spec =

@@ -1,4 +1,5 @@
 -- `file::kind::impedance_wrong` meets its contract. Assumes nothing.
+use mathlib.Core.Bool.{not, _||_}
 use borrow.Author.Needs.{needs}
 use Rattle.paper.specs.Refusal.{impedanceWrong}
 use Rattle.file.proofs.kind.impedance_wrong.Statement.{statement}
@@ -21,7 +22,12 @@ rules-hold-requires c κs = search needs
 
 returns : tie.Need-returns
 unfolding impedanceWrong
-returns c = cc
+returns c =
+    let zn = c .before in
+    let z0 = zn .before in
+    let z2 = z0 .before in
+    let z1 = z2 .before in
+    λ i. z1 .over .ensures i || z2 .over2 .ensures i || z0 .over3 .ensures i || zn .over4 .ensures i || not (c .rules-hold .ensures i)
 
 pub impedance-wrong-spec : {M : Type 1} → statement M
 impedance-wrong-spec =

@@ -9,7 +9,7 @@ same-label-requires c κs = search needs
 
 returns : tie.Need-returns
 unfolding spaces sameLabel
-returns c = cc
+returns c = c .same-label .ensures
 
 pub is-spaces-spec : {M : Type 1} → statement M
 is-spaces-spec = tie.close (tie.spec same-label-requires returns)
