@@ -1,6 +1,9 @@
 -- What fits is compared, and what does not is more than any `Wide`.
-use mathlib.Core.Path.{sym, _∙_}
+use mathlib.Core.Path.{sym, _∙_, ap}
+use Prim.Native.Nat.{ℕ}
+use lib.Dec.{leb}
 use borrow.Author.Needs.{needs}
+use Rattle.wide.specs.Value.{valueOf}
 use Rattle.wide.proofs.Laws.{whole-value, past-least, past-leb}
 use Rattle.wide.proofs.times_at_most.Statement.{statement}
 use Rattle.wide.proofs.times_at_most.Tie as tie
@@ -20,7 +23,8 @@ enum-told c = search needs
 returns : tie.Need-returns
 returns c =
     let called = c .before .before .before .before in
-    cc (whole-value _ (sym (called .times .ensures) ∙ c .before .before .p .given .1))
+    c .at-most .ensures
+    ∙ ap (λ (n : ℕ). leb n (valueOf (called .before .args .most))) (whole-value _ (sym (called .times .ensures) ∙ c .before .before .p .given .1))
 
 returns-2 : tie.Need-returns-2
 returns-2 c =
