@@ -11,7 +11,7 @@ use paper::Fault;
 use paper::Head;
 use paper::Ohms;
 
-pub(super) fn pair(low: u8, high: u8) -> u16
+pub fn pair(low: u8, high: u8) -> u16
     ensures { λ r. ⌜ r ≡ low + 256 * high ⌝ }
 {
     (low as u16) + 256 * (high as u16)
@@ -25,7 +25,7 @@ pub fn u16_at(s: &[u8], i: usize) -> u16
 }
 
 // From least to most, ends included.
-pub(super) fn in_range(least: u16, most: u16, n: u16) -> bool
+pub fn in_range(least: u16, most: u16, n: u16) -> bool
     ensures { λ r. ⌜ r ≡ within least most n ⌝ }
 {
     (least <= n) & (n <= most)

@@ -1,6 +1,3 @@
-// Bytes to head, boards and fault, and the tests that look at one record alone. What each means stands in `paper`.
+// Bytes to head, boards and fault, and the head's own test. What each means stands in `paper`.
 pub mod bytes;
 pub mod head;
-pub mod kind;
-pub mod label;
-pub mod ohms;

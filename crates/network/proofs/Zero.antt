@@ -8,9 +8,9 @@ use Rattle.paper.specs.declared.Ohms.{Ohms}
 use Rattle.paper.specs.declared.Board.{Board}
 use Rattle.paper.specs.Kind.{ohms, _+Ω_, thrice, Term, z0-alone, z0+3zn, Zero, starts, goes-on, none, kindOf, term, zeroTerm}
 use Rattle.paper.specs.Bounds.{AtMost}
-use Rattle.file.specs.declared.kind.ZeroWord.{ZeroWord}
-use Rattle.file.specs.declared.kind.ZeroWord.the-variants.{Starts, GoesOn, Blocked}
-use Rattle.file.specs.Zero.{zeroWord}
+use Rattle.kind.specs.declared.ZeroWord.{ZeroWord}
+use Rattle.kind.specs.declared.ZeroWord.the-variants.{Starts, GoesOn, Blocked}
+use Rattle.kind.specs.Zero.{zeroWord}
 use Rattle.network.specs.declared.Node.{Node}
 use Rattle.network.specs.Node.{withZero, nodeFrom, OwnSmall}
 

@@ -8,10 +8,10 @@ use super::Step;
 use super::sums::no_node;
 use super::sums::node_from;
 use super::sums::node_over;
-use file::kind::impedance_wrong;
-use file::kind::kind_wrong;
-use file::label::formed;
-use file::label::is_spaces;
+use kind::impedance_wrong;
+use kind::kind_wrong;
+use label::formed;
+use label::is_spaces;
 use paper::Board;
 
 // A board's mark.

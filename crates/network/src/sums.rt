@@ -5,10 +5,10 @@ ghost use Rattle.paper.specs.Bounds.{AtMost};
 ghost use Rattle.network.specs.Node.{nodeFrom, noNode, OwnSmall, UpSmall};
 ghost use Rattle.network.specs.Rules.{nodeOver};
 use super::Node;
-use file::kind::ZeroWord;
-use file::kind::zero_term;
-use file::kind::zero_word;
-use file::ohms::over;
+use kind::ZeroWord;
+use kind::impedance::over;
+use kind::zero_term;
+use kind::zero_word;
 use paper::Board;
 use paper::Ohms;
 

@@ -1,5 +1,5 @@
 // A label is looked for in a lent slice of boards, from the front.
-use file::label::same_label;
+use label::same_label;
 use paper::Board;
 ghost use mathlib.Core.Path.{_≡_};
 ghost use Prim.Native.Nat.{_≤_};

@@ -5,9 +5,9 @@ use Rattle.network.proofs.rules.broken.Statement.{statement}
 use Rattle.network.proofs.rules.broken.Tie as tie
 use Rattle.network.proofs.rules.broken.Reads as reads
 use Rattle.network.proofs.rules.broken.Lts as lts
-use Rattle.file.proofs.kind.impedance_wrong.Reads as impedance-wrong-reads
-use Rattle.file.proofs.kind.kind_wrong.Reads as kind-wrong-reads
-use Rattle.file.proofs.label.formed.Reads as formed-reads
+use Rattle.kind.proofs.impedance_wrong.Reads as impedance-wrong-reads
+use Rattle.kind.proofs.kind_wrong.Reads as kind-wrong-reads
+use Rattle.label.proofs.formed.Reads as formed-reads
 use Rattle.network.proofs.rules.fed_wrong.Reads as fed-wrong-reads
 
 returns : tie.Need-returns

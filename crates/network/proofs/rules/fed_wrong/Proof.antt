@@ -5,7 +5,7 @@ use Rattle.network.proofs.rules.fed_wrong.Statement.{statement}
 use Rattle.network.proofs.rules.fed_wrong.Tie as tie
 use Rattle.network.proofs.rules.fed_wrong.Reads as reads
 use Rattle.network.proofs.rules.fed_wrong.Lts as lts
-use Rattle.file.proofs.label.is_spaces.Reads as is-spaces-reads
+use Rattle.label.proofs.is_spaces.Reads as is-spaces-reads
 
 is-spaces-requires : tie.Need-is-spaces-requires
 is-spaces-requires c κs = search needs

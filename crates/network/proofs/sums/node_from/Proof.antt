@@ -5,8 +5,8 @@ use Rattle.network.proofs.sums.node_from.Statement.{statement}
 use Rattle.network.proofs.sums.node_from.Tie as tie
 use Rattle.network.proofs.sums.node_from.Reads as reads
 use Rattle.network.proofs.sums.node_from.Lts as lts
-use Rattle.file.proofs.kind.zero_term.Reads as zero-term-reads
-use Rattle.file.proofs.kind.zero_word.Reads as zero-word-reads
+use Rattle.kind.proofs.zero_term.Reads as zero-term-reads
+use Rattle.kind.proofs.zero_word.Reads as zero-word-reads
 use Rattle.network.proofs.sums.plus.Reads as plus-reads
 
 plus-requires : tie.Need-plus-requires

@@ -1,3 +1,0 @@
--- What the contracts of this crate cite besides the paper's definitions.
-pub mod Words
-pub mod Zero

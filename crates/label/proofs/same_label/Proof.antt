@@ -1,0 +1,44 @@
+-- `label::same_label` meets its contract. Assumes nothing.
+use borrow.Author.Needs.{needs}
+use Rattle.label.proofs.Same.{same-words}
+use Rattle.label.proofs.same_label.Statement.{statement}
+use Rattle.label.proofs.same_label.Tie as tie
+
+first-eight-requires : tie.Need-first-eight-requires
+first-eight-requires c κs = search needs
+
+first-eight-requires-2 : tie.Need-first-eight-requires-2
+first-eight-requires-2 c κs = search needs
+
+last-four-requires : tie.Need-last-four-requires
+last-four-requires c κs = search needs
+
+last-four-requires-2 : tie.Need-last-four-requires-2
+last-four-requires-2 c κs = search needs
+
+returns : tie.Need-returns
+returns c =
+    let last = c .before in
+    let first = last .before in
+    let s = first .before .before in
+    same-words
+    (s .args .a)
+    (s .args .b)
+    (search needs)
+    (search needs)
+    (search needs)
+    (search needs)
+    (first .before .first-eight .ensures)
+    (first .first-eight2 .ensures)
+    (last .last-four .ensures)
+    (c .last-four2 .ensures)
+
+pub same-label-spec : {M : Type 1} → statement M
+same-label-spec =
+    tie.close
+    (tie.spec
+    first-eight-requires
+    first-eight-requires-2
+    last-four-requires
+    last-four-requires-2
+    returns)
