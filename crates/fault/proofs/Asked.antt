@@ -4,7 +4,7 @@ use mathlib.Core.Bool.{false}
 use Prim.Native.Nat.{ℕ, _*_, _≤_}
 use lib.Dec.{lit≤}
 use lib.IntN.{natAbs}
-use Rattle.wide.specs.Root.{Root}
+use Rattle.root.specs.Root.{Root}
 use Rattle.paper.specs.declared.Ohms.{Ohms}
 use Rattle.paper.specs.Bounds.{AtMost}
 use Rattle.paper.specs.Kind.{isZero}

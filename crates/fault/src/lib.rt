@@ -4,7 +4,7 @@ ghost use Prim.Native.Nat.{_+_, _*_, _≤_};
 ghost use lib.IntN.{natAbs};
 ghost use Rattle.lemmas.specs.Small.{Small};
 ghost use Rattle.turn.specs.Number.{_*N_};
-ghost use Rattle.wide.specs.Root.{Root};
+ghost use Rattle.root.specs.Root.{Root};
 ghost use Rattle.paper.specs.Bounds.{AtMost};
 ghost use Rattle.paper.specs.Fault.{numOf, seq, G, Δ, shortOf};
 ghost use Rattle.paper.specs.Phase.{four, shows, phase, phases};
@@ -146,7 +146,7 @@ pub fn amps(volts: u16, unit: u16, z2: Ohms, d: i64, kind: u8) -> u64
     let v = volts as u64 * 1000000;
     let u = unit as u64;
     let n = d as u64;
-    wide::root(
+    root::root(
         wide::product(factor(z2, kind), v * v),
         wide::product(n, u * u),
     )

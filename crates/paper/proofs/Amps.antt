@@ -15,8 +15,8 @@ use Rattle.turn.specs.declared.Num.{Num}
 use Rattle.turn.specs.Number.{wholeN, powerN, timesT, _+N_, negN, _·N_, _*N_, conjN, squareN}
 use Rattle.turn.proofs.Ring.{Nring, whole-mul}
 use Rattle.turn.proofs.Conj.{conj-mul, conj-conj}
-use Rattle.wide.specs.Root.{Root}
-use Rattle.wide.proofs.Laws.{root-unique}
+use Rattle.root.specs.Root.{Root}
+use Rattle.root.proofs.Laws.{root-unique}
 use Rattle.paper.specs.declared.Ohms.{Ohms}
 use Rattle.paper.specs.Kind.{isZero}
 use Rattle.paper.specs.Chain.{Z1, Z2, Z0}

@@ -8,7 +8,7 @@ use Prim.Native.Nat.{ℕ, suc, _*_, _^_, _≤_}
 use native.Mathlib.Omega.{arith}
 use lib.IntN.{pos, natAbs}
 use lib.ListN.{length}
-use Rattle.wide.specs.Root.{Root}
+use Rattle.root.specs.Root.{Root}
 use Rattle.paper.specs.Kind.{isZero}
 use Rattle.paper.specs.File.{headOf, boardsOf, faultOf}
 use Rattle.paper.specs.Chain.{Boards, placeOf, Z1, Z2, Z0}

@@ -7,8 +7,8 @@ use native.Mathlib.Nat.{mul-mul-mul-comm, pow-suc, le-div-iff-mul-le, div-lt-iff
 use native.Mathlib.Numerals.{add-one}
 use native.Mathlib.Omega.{arith}
 use lib.Dec.{T, leb, leb→le, nleb→lt}
-use Rattle.wide.specs.Root.{Root}
-use Rattle.wide.proofs.Laws.{root-unique}
+use Rattle.root.specs.Root.{Root}
+use Rattle.root.proofs.Laws.{root-unique}
 use Rattle.paper.specs.Amps.{root, greatest}
 
 record IsRoot (m n : ℕ) : Type 0 where

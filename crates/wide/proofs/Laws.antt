@@ -1,8 +1,8 @@
 -- Laws of the definitions, for the proofs here and in the crates above.
 use mathlib.Core.Bool.{Bool, false, cond}
 use mathlib.Core.Path.{_≡_, sym, ap, _∙_}
-use Prim.Native.Nat.{ℕ, zero, suc, _+_, _*_, _^_, _≤_, _<_}
-use native.Mathlib.Nat.{le-trans, le-of-lt, le-antisymm, lt-of-le-of-lt, lt-of-lt-of-le, lt-of-not-le, not-le-of-lt, mul-le-mul, mul-le-mul-left, mul-le-mul-right, mul-lt-mul-of-pos-right}
+use Prim.Native.Nat.{ℕ, _^_, _≤_, _<_}
+use native.Mathlib.Nat.{lt-of-lt-of-le, lt-of-not-le}
 use native.Mathlib.Decide.{decLe}
 use native.Mathlib.Omega.{arith}
 use lib.Dec.{leb}
@@ -10,7 +10,6 @@ use lib.Arith.{digits-lt}
 use lib.Pow.{split, high, low}
 use borrow.Author.Tests.{lt-ltb, le-ltb, lt-leb}
 use Rattle.wide.specs.Value.{valueOf, wideOf, fittedOf}
-use Rattle.wide.specs.Root.{Root}
 use Rattle.wide.specs.declared.Wide.{Wide}
 use Rattle.wide.specs.declared.Fitted.the-variants.{Whole, Past}
 
@@ -78,35 +77,3 @@ past-least n e = either (decLe (2 ^ 128) n)
     either : Dec (2 ^ 128 ≤ n) → 2 ^ 128 ≤ n
     either (yes h) = h
     either (no f) = absurd (apart (wideOf n) (sym (fitted-whole n (lt-of-not-le f)) ∙ e))
-
-square-le : {a b : ℕ} (den : ℕ) → a ≤ b → a * a * den ≤ b * b * den
-square-le den h = mul-le-mul-right den (mul-le-mul h h)
-
-square-more : {a b den : ℕ} → 0 < den → a < b → a * a * den < b * b * den
-square-more {a = a} pos h = mul-lt-mul-of-pos-right (lt-of-le-of-lt (mul-le-mul-left a (le-of-lt h)) (mul-lt-mul-of-pos-right h (omega arith))) pos
-
-square-lt : {a b : ℕ} (den : ℕ) → a * a * den < b * b * den → a < b
-square-lt den h = lt-of-not-le (λ g. not-le-of-lt h (square-le den g))
-
--- the numbers up to the root reach num, and no others do
-pub root-reaches : {num den n m : ℕ} → Root num den n → m ≤ n → m * m * den ≤ num
-root-reaches {den = den} r h = le-trans (square-le den h) (r .low)
-
-pub root-greatest : {num den n : ℕ} (m : ℕ) → Root num den n → m * m * den ≤ num → m ≤ n
-root-greatest {den = den} {n = n} m r h = let above : m < n + 1 = square-lt den (lt-of-le-of-lt h (r .high)) in omega arith
-
--- so there is one root at most
-pub root-unique : {num den n m : ℕ} → Root num den n → Root num den m → n ≡ m
-root-unique {n = n} {m = m} r s = le-antisymm (root-greatest n s (r .low)) (root-greatest m r (s .low))
-
--- and, but for a divisor of 0, there is one
-pub root-exists : (num den : ℕ) → 1 ≤ den → (n : ℕ) × Root num den n
-root-exists zero den pos = (0, record { low = omega arith; high = omega arith })
-root-exists (suc num) den pos = grown (root-exists num den pos)
-  where
-    grown : (n : ℕ) × Root num den n → (n : ℕ) × Root (suc num) den n
-    grown (n, r) = either (decLe ((n + 1) * (n + 1) * den) (suc num))
-      where
-        either : Dec ((n + 1) * (n + 1) * den ≤ suc num) → (n : ℕ) × Root (suc num) den n
-        either (yes h) = (n + 1, record { low = h; high = lt-of-le-of-lt (r .high) (square-more pos (omega arith)) })
-        either (no f) = (n, record { low = omega (arith, r .low); high = lt-of-not-le f })

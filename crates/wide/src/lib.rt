@@ -1,11 +1,9 @@
-// Whole numbers of 128 bits in two words, and the greatest n with n * n * den <= num.
-mod guess;
+// Whole numbers of 128 bits in two words: product and comparison.
 
 ghost use mathlib.Core.Path.{_≡_};
-ghost use Prim.Native.Nat.{_*_, _≤_, _<_};
+ghost use Prim.Native.Nat.{_*_};
 ghost use lib.Dec.{leb};
 ghost use Rattle.wide.specs.Value.{valueOf, wideOf, fittedOf};
-ghost use Rattle.wide.specs.Root.{Root};
 
 pub struct Wide {
     pub hi: u64,
@@ -61,66 +59,4 @@ pub fn at_most(a: Wide, b: Wide) -> bool
     } else {
         a.hi < b.hi
     }
-}
-
-// w * x <= most.
-fn times_at_most(w: Wide, x: u64, most: Wide) -> bool
-    ensures { λ r. ⌜ r ≡ leb (valueOf w * x) (valueOf most) ⌝ }
-{
-    match times(w, x) {
-        Fitted::Whole(p) => at_most(p, most),
-        Fitted::Past => false,
-    }
-}
-
-// n * n * den <= num: one of n * n and den is a single word, or the product is past 128 bits.
-fn reaches(n: u64, num: Wide, den: Wide) -> bool
-    ensures { λ r. ⌜ r ≡ leb (n * n * valueOf den) (valueOf num) ⌝ }
-{
-    let s = product(n, n);
-    if den.hi == 0 {
-        return times_at_most(s, den.lo, num);
-    }
-    if s.hi == 0 {
-        return times_at_most(den, s.lo, num);
-    }
-    false
-}
-
-// m where it lies above lo and no higher than top, and else the middle of them.
-fn between(m: u64, lo: u64, top: u64) -> u64
-    requires { ⌜ lo < top ⌝ }
-    ensures { λ r. ⌜ (lo < r) × (r ≤ top) ⌝ }
-{
-    if lo < m {
-        if m <= top {
-            return m;
-        }
-    }
-    top - (top - lo) / 2
-}
-
-// The greatest n with n * n * den <= num. It lies from lo to top. A guess is tried first, then what is a step from
-// the last try, with steps that double, and the middle where a step leaves the bracket or wraps. A guess that is
-// right, or one too large, takes two tests.
-pub fn root(num: Wide, den: Wide) -> u64
-    requires { ⌜ 1 ≤ valueOf den ⌝ }
-    ensures { λ r. ⌜ Root (valueOf num) (valueOf den) r ⌝ }
-{
-    let mut lo = 0;
-    let mut top = u64::MAX;
-    let mut next = guess::near(num, den);
-    let mut step = 1u64;
-    while lo < top {
-        let m = between(next, lo, top);
-        if reaches(m, num, den) {
-            lo = m;
-            next = std::num::wrapping_add_u64(m, step);
-        } else {
-            top = m - 1;
-            next = std::num::wrapping_sub_u64(m, step);
-        }
-        step = step << 1;
-    }
-    lo
 }

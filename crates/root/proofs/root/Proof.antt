@@ -8,11 +8,11 @@ use native.Mathlib.Omega.{arith}
 use lib.Dec.{leb}
 use borrow.Author.Tests.{leb-true, leb-false}
 use borrow.Author.Needs.{needs}
 use Rattle.wide.specs.Value.{valueOf}
-use Rattle.wide.specs.Root.{Root}
+use Rattle.root.specs.Root.{Root}
 use Rattle.wide.proofs.Laws.{value-lt}
-use Rattle.wide.proofs.root.Statement.{statement}
-use Rattle.wide.proofs.root.Tie as tie
+use Rattle.root.proofs.root.Statement.{statement}
+use Rattle.root.proofs.root.Tie as tie
 
 record Bracket (num den lo top : ℕ) : Type 0 where
   low : lo * lo * den ≤ num

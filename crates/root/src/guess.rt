@@ -1,6 +1,6 @@
 // Where the search for a root begins. Nothing rests on how near that is, so no contract speaks of it: below 2^31
 // the root is nearly always the guess or one less.
-use super::Wide;
+use wide::Wide;
 
 // A number by its length in bits and its 64 leading bits: about head * 2^(bits - 64). Of 0 the head is 0.
 struct Lead {

@@ -1,28 +1,27 @@
 -- Where neither n * n nor den is a single word, each is 2 ^ 64 or more, and their product more than any `Wide`.
-use mathlib.Core.Path.{_≡_, sym, _∙_, ap}
+use mathlib.Core.Bool.{Bool}
+use mathlib.Core.Path.{_≡_, sym, _∙_}
 use Prim.Native.Nat.{ℕ, _*_, _^_, _≤_}
 use native.Mathlib.Nat.{mul-le-mul, mul-comm}
 use lib.Dec.{leb}
 use borrow.Author.Needs.{needs}
 use Rattle.wide.specs.declared.Wide.{Wide}
 use Rattle.wide.specs.Value.{valueOf, wideOf}
 use Rattle.wide.proofs.Laws.{value-of, value-low, value-high, past-leb}
-use Rattle.wide.proofs.reaches.Statement.{statement}
-use Rattle.wide.proofs.reaches.Tie as tie
+use Rattle.root.proofs.Laws.{compared}
+use Rattle.root.proofs.reaches.Statement.{statement}
+use Rattle.root.proofs.reaches.Tie as tie
 
 module _ (n : ℕ) (s den : Wide) (e : s ≡ wideOf (n * n)) where
-  den-word : den .hi ≡ 0 → valueOf s * den .lo ≡ n * n * valueOf den
-  den-word h = λ i. value-of e i * sym (value-low den h) i
+  -- the test that was made, of a product with a single word, is the one that was asked for
+  den-word : (most : ℕ) {r : Bool} → r ≡ leb (valueOf s * den .lo) most → den .hi ≡ 0 → r ≡ leb (n * n * valueOf den) most
+  den-word most t h = compared most t (λ i. value-of e i * sym (value-low den h) i)
 
-  square-word : s .hi ≡ 0 → valueOf den * s .lo ≡ n * n * valueOf den
-  square-word h = mul-comm (valueOf den) (s .lo) ∙ (λ i. (sym (value-low s h) ∙ value-of e) i * valueOf den)
+  square-word : (most : ℕ) {r : Bool} → r ≡ leb (valueOf den * s .lo) most → s .hi ≡ 0 → r ≡ leb (n * n * valueOf den) most
+  square-word most t h = compared most t (mul-comm (valueOf den) (s .lo) ∙ (λ i. (sym (value-low s h) ∙ value-of e) i * valueOf den))
 
   past : (s .hi ≡ 0 → ⊥) → (den .hi ≡ 0 → ⊥) → 2 ^ 128 ≤ n * n * valueOf den
   past hs hd = mul-le-mul {n₁ = 2 ^ 64} {m₁ = 2 ^ 64} (rw (value-of e) at (value-high s hs)) (value-high den hd)
-
--- equal numbers are compared alike
-compared : (made : tie.After-product) {m n : ℕ} → m ≡ n → leb m (valueOf (made .before .args .num)) ≡ leb n (valueOf (made .before .args .num))
-compared made e = ap (λ (m : ℕ). leb m (valueOf (made .before .args .num))) e
 
 product-requires : tie.Need-product-requires
 product-requires c κs = search needs
@@ -33,7 +32,8 @@ times-at-most-requires c κs = search needs
 returns : tie.Need-returns
 returns c =
     let made = c .before .before .before in
-    c .times-at-most .ensures ∙ compared made (den-word _ _ (made .before .args .den) (made .product .ensures) (c .before .if1 .taken))
+    let start = made .before in
+    den-word (start .args .n) (made .product .result) (start .args .den) (made .product .ensures) (valueOf (start .args .num)) (c .times-at-most .ensures) (c .before .if1 .taken)
 
 times-at-most-requires-2 : tie.Need-times-at-most-requires-2
 times-at-most-requires-2 c κs = search needs
@@ -41,7 +41,8 @@ times-at-most-requires-2 c κs = search needs
 returns-2 : tie.Need-returns-2
 returns-2 c =
     let made = c .before .before .before .before .before in
-    c .times-at-most2 .ensures ∙ compared made (square-word _ _ (made .before .args .den) (made .product .ensures) (c .before .if2 .taken))
+    let start = made .before in
+    square-word (start .args .n) (made .product .result) (start .args .den) (made .product .ensures) (valueOf (start .args .num)) (c .times-at-most2 .ensures) (c .before .if2 .taken)
 
 returns-3 : tie.Need-returns-3
 returns-3 c =

@@ -1,12 +1,11 @@
 -- What fits is compared, and what does not is more than any `Wide`.
-use mathlib.Core.Path.{sym, _∙_, ap}
-use Prim.Native.Nat.{ℕ}
-use lib.Dec.{leb}
+use mathlib.Core.Path.{sym, _∙_}
 use borrow.Author.Needs.{needs}
 use Rattle.wide.specs.Value.{valueOf}
 use Rattle.wide.proofs.Laws.{whole-value, past-least, past-leb}
-use Rattle.wide.proofs.times_at_most.Statement.{statement}
-use Rattle.wide.proofs.times_at_most.Tie as tie
+use Rattle.root.proofs.Laws.{compared}
+use Rattle.root.proofs.times_at_most.Statement.{statement}
+use Rattle.root.proofs.times_at_most.Tie as tie
 
 times-requires : tie.Need-times-requires
 times-requires c κs = search needs
@@ -23,8 +22,7 @@ enum-told c = search needs
 returns : tie.Need-returns
 returns c =
     let called = c .before .before .before .before in
-    c .at-most .ensures
-    ∙ ap (λ (n : ℕ). leb n (valueOf (called .before .args .most))) (whole-value _ (sym (called .times .ensures) ∙ c .before .before .p .given .1))
+    compared (valueOf (called .before .args .most)) (c .at-most .ensures) (whole-value _ (sym (called .times .ensures) ∙ c .before .before .p .given .1))
 
 returns-2 : tie.Need-returns-2
 returns-2 c =
