@@ -73,7 +73,7 @@ module _ (before : Boards) (b : Board) (rest : Boards) where
   said e = λ i. record { z1 = Z1 all r; z2 = Z2 all r; z0 = sym (e .zero-sum) i; feeder = feederOf all r; start = sym (e .zero-start) i; turn = turnOf all r }
 
   zero-node : (z : Zero) → kindOf (b .kind) .zero-seq ≡ z → withZero base b r z (nodeOf before fed) ≡ nodeOf all r
-  unfolding nodeOf
+  unfolding nodeOf withZero
   zero-node (starts t) e = said (next-starts before b rest e)
   zero-node (goes-on t) e = go (eqb (startsAt before fed) 0) (starts-nowhere before fed)
     where

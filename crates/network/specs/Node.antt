@@ -2,6 +2,7 @@
 use mathlib.Core.Bool.{cond}
 use Prim.Native.Nat.{ℕ, _+_, _≤_}
 use lib.Dec.{eqb}
+use Rattle.paper.specs.declared.Ohms.{Ohms}
 use Rattle.paper.specs.declared.Board.{Board}
 use Rattle.paper.specs.Kind.{ohms, _+Ω_, Zero, starts, goes-on, none, kindOf, term}
 use Rattle.paper.specs.Bounds.{AtMost}
@@ -30,12 +31,13 @@ pub record UpSmall (up : Node) : Type 0 where
   pub up-turn : up .turn ≤ 2805
 
 -- ---- record r after its feeder: what the reader computes. That it is the paper's is a theorem (proofs/, `node-next`)
--- with another zero sequence
-abbrev pub withZero : Node → Board → ℕ → Zero → Node → Node
-withZero n b r (starts t) up = record { z1 = n .z1; z2 = n .z2; z0 = term t b; feeder = n .feeder; start = r; turn = n .turn }
-withZero n b r (goes-on t) up =
-    cond (eqb (up .start) 0) n
-    (record { z1 = n .z1; z2 = n .z2; z0 = term t b +Ω up .z0; feeder = n .feeder; start = up .start; turn = n .turn })
+-- with a zero sequence
+abbrev pub started : Node → Ohms → ℕ → Node
+started n z s = record { z1 = n .z1; z2 = n .z2; z0 = z; feeder = n .feeder; start = s; turn = n .turn }
+
+unfoldable pub withZero : Node → Board → ℕ → Zero → Node → Node
+withZero n b r (starts t) up = started n (term t b) r
+withZero n b r (goes-on t) up = cond (eqb (up .start) 0) n (started n (term t b +Ω up .z0) (up .start))
 withZero n b r none up = n
 
 unfoldable pub nodeFrom : ℕ → Board → ℕ → Node → Node

@@ -1,8 +1,8 @@
 // A record's node, from its feeder's.
 ghost use mathlib.Core.Path.{_≡_};
-ghost use Rattle.paper.specs.Kind.{_+Ω_};
+ghost use Rattle.paper.specs.Kind.{_+Ω_, kindOf};
 ghost use Rattle.paper.specs.Bounds.{AtMost};
-ghost use Rattle.network.specs.Node.{nodeFrom, noNode, OwnSmall, UpSmall};
+ghost use Rattle.network.specs.Node.{started, withZero, nodeFrom, noNode, OwnSmall, UpSmall};
 ghost use Rattle.network.specs.Rules.{nodeOver};
 use super::Node;
 use kind::ZeroWord;
@@ -38,6 +38,46 @@ fn plus(a: Ohms, b: Ohms) -> Ohms
     }
 }
 
+fn started(n: Node, z0: Ohms, start: u16) -> Node
+    ensures { λ m. ⌜ m ≡ started n z0 start ⌝ }
+{
+    let z1 = n.z1;
+    let z2 = n.z2;
+    Node {
+        z1,
+        z2,
+        z0,
+        feeder: n.feeder,
+        start,
+        turn: n.turn,
+    }
+}
+
+// A node without zero sequence, with that of its record: one of its own, its feeder's and a term more, or none.
+fn with_zero(n: Node, r: u16, b: Board, up: Node) -> Node
+    requires { ⌜ OwnSmall b × UpSmall up ⌝ }
+    ensures { λ m. ⌜ m ≡ withZero n b r (kindOf (b .kind) .zero-seq) up ⌝ }
+{
+    let kind = b.kind;
+    let begun = up.start;
+    let up0 = up.z0;
+    match zero_word(kind) {
+        ZeroWord::Starts => {
+            let z0 = zero_term(b);
+            started(n, z0, r)
+        }
+        ZeroWord::GoesOn => {
+            if begun == 0 {
+                return n;
+            }
+            let term = zero_term(b);
+            let z0 = plus(term, up0);
+            started(n, z0, begun)
+        }
+        ZeroWord::Blocked => n,
+    }
+}
+
 pub(super) fn node_from(r: u16, b: Board, feeder: u16, up: Node) -> Node
     requires { ⌜ OwnSmall b × UpSmall up ⌝ }
     ensures { λ n. ⌜ n ≡ nodeFrom r b feeder up ⌝ }
@@ -46,56 +86,19 @@ pub(super) fn node_from(r: u16, b: Board, feeder: u16, up: Node) -> Node
     let own2 = b.z2;
     let up1 = up.z1;
     let up2 = up.z2;
-    let up0 = up.z0;
-    let begun = up.start;
-    let kind = b.kind;
     let z1 = plus(own1, up1);
     let z2 = plus(own2, up2);
     let turn = b.clock as u16 + up.turn;
-    let none = Ohms { r: 0, x: 0 };
-    match zero_word(kind) {
-        ZeroWord::Starts => {
-            let z0 = zero_term(b);
-            Node {
-                z1,
-                z2,
-                z0,
-                feeder,
-                start: r,
-                turn,
-            }
-        }
-        ZeroWord::GoesOn => {
-            if begun == 0 {
-                return Node {
-                    z1,
-                    z2,
-                    z0: none,
-                    feeder,
-                    start: 0,
-                    turn,
-                };
-            }
-            let term = zero_term(b);
-            let z0 = plus(term, up0);
-            Node {
-                z1,
-                z2,
-                z0,
-                feeder,
-                start: begun,
-                turn,
-            }
-        }
-        ZeroWord::Blocked => Node {
-            z1,
-            z2,
-            z0: none,
-            feeder,
-            start: 0,
-            turn,
-        },
-    }
+    let z0 = Ohms { r: 0, x: 0 };
+    let n = Node {
+        z1,
+        z2,
+        z0,
+        feeder,
+        start: 0,
+        turn,
+    };
+    with_zero(n, r, b, up)
 }
 
 // 11
