@@ -1,4 +1,2 @@
 -- What the contracts of the four faults cite beside the paper's own definitions.
-pub mod Bounds
 pub mod Short
-pub mod Amps

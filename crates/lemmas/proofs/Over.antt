@@ -1,14 +1,14 @@
 -- A part of a buffer, lent and written over: what the buffer then holds, place by place, and the turns of a copy into it.
 -- Assumes nothing.
-use mathlib.Core.Path.{_≡_, sym, ap, _∙_, subst}
-use mathlib.Core.List.{List, [], _++_, append-nil}
+use mathlib.Core.Path.{_≡_, refl, sym, ap, _∙_, subst}
+use mathlib.Core.List.{List, [], _++_, append-nil, append-assoc}
 use Prim.Native.Nat.{ℕ, suc, _+_, _-_, _≤_, _<_}
 use native.Mathlib.Nat.{zero-add}
 use native.Mathlib.Numerals.{add-one}
 use native.Mathlib.Omega.{arith}
 use borrow.Rule.Slice.PartMut.{putMid}
 use lib.ListN.{length, getD, take, drop, set, length-append, length-take, length-drop, List·getD-append}
-use lib.Seq.{paste, paste-suc, drop-length, take-length, length-take-le, getD-append-add, getD-take, getD-drop}
+use lib.Seq.{paste, paste-suc, drop-length, take-length, length-take-le, getD-append-add, getD-take, getD-drop, take-append-seam, drop-append-seam, take-append-add, drop-append-add, drop-drop}
 use Rattle.lemmas.specs.Over.{over}
 
 -- what a lent part leaves: the callee was lent k places from a on and left ys there, which its contract says is zs
@@ -60,3 +60,36 @@ pub copied : {A : Type 0} (out xs : List A) (k : ℕ) → length out ≡ k → l
 copied {A} out xs k e f =
     subst (λ (n : ℕ). take k xs ++ drop n out ≡ xs) (sym (zero-add k))
     (subst (λ (n : ℕ). take n xs ++ drop k out ≡ xs) f (subst (λ (n : ℕ). take (length xs) xs ++ drop n out ≡ xs) e (rw (take-length xs, drop-length out, append-nil xs))))
+
+-- ---- written behind what was written
+module _ {A : Type 0} (a : ℕ) (ys zs xs : List A) (h : a ≤ length xs) where
+  front : length (take a xs) ≡ a
+  front = length-take-le a xs h
+
+  rest : List A
+  rest = drop (length ys) (drop a xs)
+
+  pub over-then : over (a + length ys) zs (over a ys xs) ≡ over a (ys ++ zs) xs
+  unfolding over rest
+  over-then =
+      let p = take a xs in
+      let kept : take (a + length ys) (p ++ (ys ++ rest)) ≡ p ++ ys =
+      subst (λ (n : ℕ). take (n + length ys) (p ++ (ys ++ rest)) ≡ p ++ ys) front
+      (take-append-add p (ys ++ rest) (length ys) ∙ ap (λ (l : List A). p ++ l) (take-append-seam ys rest)) in
+      let left : drop (a + length ys) (p ++ (ys ++ rest)) ≡ rest =
+      subst (λ (n : ℕ). drop (n + length ys) (p ++ (ys ++ rest)) ≡ rest) front
+      (drop-append-add p (ys ++ rest) (length ys) ∙ drop-append-seam ys rest) in
+      ap (λ (l : List A). l ++ (zs ++ drop (length zs) (drop (a + length ys) (p ++ (ys ++ rest))))) kept
+      ∙ ap (λ (l : List A). (p ++ ys) ++ (zs ++ drop (length zs) l)) left
+      ∙ append-assoc p ys (zs ++ drop (length zs) rest)
+      ∙ ap (λ (l : List A). p ++ l) (sym (append-assoc ys zs (drop (length zs) rest)))
+      ∙ ap (λ (l : List A). p ++ ((ys ++ zs) ++ l)) (drop-drop (length zs) (length ys) (drop a xs) ∙ ap (λ (n : ℕ). drop n (drop a xs)) (sym (length-append ys zs)))
+
+-- from the front, and over all of it
+pub over-front : {A : Type 0} (ys xs : List A) → over 0 ys xs ≡ ys ++ drop (length ys) xs
+unfolding over
+over-front ys xs = refl
+
+pub over-all : {A : Type 0} (ys xs : List A) → length ys ≡ length xs → over 0 ys xs ≡ ys
+unfolding over
+over-all {A} ys xs e = ap (λ (l : List A). ys ++ l) (ap (λ (n : ℕ). drop n xs) e ∙ drop-length xs) ∙ append-nil ys

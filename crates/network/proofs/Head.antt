@@ -19,8 +19,7 @@ use Rattle.paper.specs.Bytes.{u16At, part}
 use Rattle.paper.specs.Rows.{Row, row, first}
 use Rattle.paper.specs.File.{HD, headOf}
 use Rattle.paper.specs.Refusal.{theHead, headRows, headRanges}
-use Rattle.network.specs.Rules.{rowNumber}
-use Rattle.network.specs.Network.{headNumber}
+use Rattle.network.specs.Network.{rowNumber, headNumber}
 
 -- ---- each outcome, from the facts in the shape in which the branches have them
 pub head-1 : (s : List ℕ) → length s < 8 → 1 ≡ headNumber s

@@ -1,10 +1,2 @@
-pub mod Behind
-pub mod Record
-pub mod Tables
-pub mod Records
-pub mod Reading
 pub mod Head
-pub mod Zero
-pub mod Outcomes
-pub mod Turn
 pub mod Whole

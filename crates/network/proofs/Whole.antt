@@ -14,12 +14,15 @@ use Rattle.paper.specs.Bytes.{part}
 use Rattle.paper.specs.Rows.{first, _then_}
 use Rattle.paper.specs.File.{headOf, recordsOf, boardsOf}
 use Rattle.paper.specs.Refusal.{headRows, recordsRefusal, networkRefusal}
-use Rattle.network.specs.declared.Node.{Node}
-use Rattle.network.specs.declared.Judged.{Judged}
+use Rattle.feed.specs.declared.Node.{Node}
+use Rattle.feed.specs.Node.{noNode}
+use Rattle.records.specs.declared.Judged.{Judged}
 use Rattle.network.specs.declared.Network.{Network}
-use Rattle.network.specs.declared.Outcome.the-variants.{Accepted}
-use Rattle.network.specs.Network.{table, emptyBoard, headNumber, Judgement, refusedNetwork, acceptedNetwork, judged, networkOf}
-use Rattle.network.proofs.Records.{count, boards-count}
+use Rattle.network.specs.declared.Outcome.the-variants.{Accepted, Refused}
+use Rattle.network.specs.Network.{headNumber, refusedNetwork, acceptedNetwork, judged, networkOf}
+use Rattle.records.specs.Tables.{table, emptyBoard}
+use Rattle.records.specs.Judgement.{Judgement}
+use Rattle.records.proofs.Records.{count, boards-count}
 use Rattle.network.proofs.Head.{too-short, head-broken, head-kept}
 
 module _ (s : List ℕ) where
@@ -67,3 +70,8 @@ module _ (s : List ℕ) where
 pub first-boards : (s : List ℕ) {n : ℕ} {t : List Board} → n ≡ count s → t ≡ table emptyBoard (boardsOf s) → take n t ≡ boardsOf s
 unfolding table
 first-boards s {n} e f = ap (take n) f ∙ take-at (boardsOf s) _ n (boards-count s ∙ sym e)
+
+-- ---- a refused network
+pub refused-is : (r : Refusal) {bs : List Board} {ns : List Node} → bs ≡ table emptyBoard [] → ns ≡ table noNode []
+    → _≡_ {A = Network} (record { outcome = Refused r; head = record { volts = 0; unit = 0; boards = 0 }; boards = bs; nodes = ns }) (refusedNetwork r)
+refused-is r e f = λ i. record { outcome = Refused r; head = record { volts = 0; unit = 0; boards = 0 }; boards = e i; nodes = f i }

@@ -1,53 +1,25 @@
 // A network, read: accepted with what each board gets from its chain, or refused by the first rule that its bytes break.
-mod judge;
-mod rules;
-mod sums;
-mod table;
-
 ghost use mathlib.Core.Path.{_≡_};
 ghost use Rattle.paper.specs.Bytes.{part};
 ghost use Rattle.paper.specs.declared.Lent.the-variants.{NetworkBytes};
 ghost use Rattle.network.specs.Network.{refusedNetwork, networkOf, headNumber};
+use feed::Node;
+use feed::sums::no_node;
 use file::bytes::head_of;
 use file::bytes::u16_at;
 use file::head::head_wrong;
-use judge::judge;
 use paper::Board;
 use paper::Head;
 use paper::Lent;
-use paper::Ohms;
 use paper::Part;
 use paper::Refusal;
+use records::judge;
+use records::table::decode;
+use records::table::empty_board;
 use search::lookup_all;
-use sums::no_node;
-use table::decode;
-use table::empty_board;
 
 // The head's mark.
 const HD: u16 = 0x4448;
-
-// What a board gets from its chain: sums, where its zero sequence starts (0: nowhere), its feeder (0: none), its turn.
-pub struct Node {
-    pub z1: Ohms,
-    pub z2: Ohms,
-    pub z0: Ohms,
-    pub feeder: u16,
-    pub start: u16,
-    pub turn: u16,
-}
-
-// A record judged: the number of the first broken rule of 5 to 11, or 0 and its node.
-struct Step {
-    node: Node,
-    number: u8,
-}
-
-// The records judged: the number and the place of the first that is refused, or 0, 0 and all nodes.
-struct Judged {
-    nodes: [Node; 256],
-    place: u16,
-    number: u8,
-}
 
 pub enum Outcome {
     Accepted,

@@ -23,7 +23,7 @@ use Rattle.paper.specs.Chain.{Z1, Z2, Z0}
 use Rattle.paper.specs.declared.Seq.{Seq}
 use Rattle.paper.specs.Fault.{numOf, seq, shorts, shortOf, currents}
 use Rattle.paper.specs.Phase.{Asked, theD, theI, shows}
-use Rattle.paper.specs.Amps.{greatest, said, saidSquare, ampsOver, ampsUnder, amps}
+use Rattle.paper.specs.Amps.{greatest, said, saidSquare, ampsOver, ampsUnder, amps, factor}
 use Rattle.paper.proofs.Flat.{flat-num, flat-add, flat-neg, flat-square}
 use Rattle.paper.proofs.Row.{rowOf}
 use Rattle.paper.proofs.Square.{sq}
@@ -75,16 +75,13 @@ nine z =
 earth-square : (z : Ohms) → let n = negN (numOf z) +N negN (numOf z) +N negN (numOf z) in n *N conjN n ≡ wholeN (pos (9 * sq z))
 earth-square z = let f = flat-neg (flat-num z) in flat-square (flat-add (flat-add f f) f) ∙ ap wholeN (nine z)
 
--- the squares above the line: |1|², |3|², |t⁸ - t⁴|², |3 Z2|² (and nothing for a number that is no kind)
-unfoldable pub factor : Ohms → ℕ → ℕ
-factor z2 kind = getD (1 ∷ 9 ∷ 3 ∷ 9 * sq z2 ∷ []) kind 0
-
 module _ (z1 z2 z0 zf : Ohms) where
   abbrev above : ℕ → Num
   above kind = saidOf (rowOf z1 z2 z0 zf kind .above) kind
 
+  -- its square is the factor
   above-square : (kind : ℕ) → above kind *N conjN (above kind) ≡ wholeN (pos (factor z2 kind))
-  unfolding factor shortOf shorts shows powerN timesT conjN _*N_ _+N_ _·N_ negN
+  unfolding factor sq shortOf shorts shows powerN timesT conjN _*N_ _+N_ _·N_ negN
   above-square zero = refl
   above-square (suc zero) = refl
   above-square (suc (suc zero)) = refl
@@ -93,7 +90,7 @@ module _ (z1 z2 z0 zf : Ohms) where
 
 -- how large it is at most
 pub factor-most : {z2 : Ohms} (kind : ℕ) → AtMost 4095 z2 → factor z2 kind ≤ 301842450
-unfolding factor sq
+unfolding factor
 factor-most zero u = lit≤ tt
 factor-most (suc zero) u = lit≤ tt
 factor-most (suc (suc zero)) u = lit≤ tt

@@ -21,8 +21,9 @@ use Rattle.paper.specs.declared.Seq.{Seq}
 use Rattle.paper.specs.Fault.{nilN, numOf, G, Δ, shorts, shortOf, D, currents}
 use Rattle.paper.specs.Chain.{Z1, Z2, Z0}
 use Rattle.paper.specs.Phase.{Asked, theD}
-use Rattle.paper.proofs.Flat.{Flat, flat-is, flat-complex, flat-num, flat-add, flat-neg, flat-mul, flat-square}
-use Rattle.paper.proofs.Row.{EachSeq, each-row, GOf, ΔOf, rowOf, DOf, IOf}
+use Rattle.paper.specs.Bounds.{Flat, EachSeq}
+use Rattle.paper.proofs.Flat.{flat-is, flat-complex, flat-num, flat-add, flat-neg, flat-mul, flat-square}
+use Rattle.paper.proofs.Row.{each-row, GOf, ΔOf, rowOf, DOf, IOf}
 use Rattle.paper.proofs.Square.{earthed, sq, sqΔ, each-D}
 
 -- ---- the divisors are of the form R + jX, and so is what stands above the line

@@ -19,11 +19,10 @@ use Rattle.paper.specs.Chain.{chain, zeroChain, Z1, Z2, Z0, shared1, sha
 use Rattle.paper.specs.declared.Seq.{Seq}
 use Rattle.paper.specs.Phase.{Asked, theD, theI, voltage, onlyIf, current, phase, four, phases, faultCurrents, boardVoltages, recordCurrents}
 use Rattle.paper.specs.Answer.{flat, ofBoard, ofBoards, numbers}
-use Rattle.paper.proofs.Row.{EachSeq}
-use Rattle.paper.specs.Bounds.{AtMost}
-use Rattle.paper.proofs.Plane.{Plane, plane-whole, plane-weak}
+use Rattle.paper.specs.Bounds.{AtMost, Plane, EachSeq, mostD, mostI, mostW}
+use Rattle.paper.proofs.Plane.{plane-whole, plane-weak}
 use Rattle.paper.proofs.Shared.{shared1-small, shared2-small, shared0-small}
-use Rattle.paper.proofs.Sizes.{Ranged, mostD, mostI, mostW, D-most, currents-plane, voltageOf-plane, shows-fits}
+use Rattle.paper.proofs.Sizes.{Ranged, D-most, currents-plane, voltageOf-plane, shows-fits}
 
 -- ---- every number of a list
 pub data Smalls (b : ℕ) : List ℤ → Type 0 where
@@ -76,13 +75,13 @@ shares-small q {j} u =
       share0 = shared0-small (q .boards) (q .k) j 4095 (u .sum0);
     }
 
-only-if : (q : Asked) (b : Bool) {n : Num} → Plane mostI n → Plane mostI (onlyIf q b n)
+pub only-if : (b : Bool) {n : Num} → Plane mostI n → Plane mostI (onlyIf b n)
 unfolding onlyIf
-only-if q true p = p
-only-if q false p = plane-whole (record { small = lit≤ tt })
+only-if true p = p
+only-if false p = plane-whole (record { small = lit≤ tt })
 
 -- a current is narrower than a voltage
-as-wide : {X : Seq} → EachSeq (Plane mostI) X → EachSeq (Plane mostW) X
+pub as-wide : {X : Seq} → EachSeq (Plane mostI) X → EachSeq (Plane mostW) X
 as-wide p = record { e1 = plane-weak (lit≤ tt) (p .e1); e2 = plane-weak (lit≤ tt) (p .e2); e0 = plane-weak (lit≤ tt) (p .e0) }
 
 module _ (q : Asked) (s : Ranged (Z1 (q .boards) (q .k)) (Z2 (q .boards) (q .k)) (Z0 (q .boards) (q .k)) (q .fault .zf)) where
@@ -105,7 +104,7 @@ module _ (q : Asked) (s : Ranged (Z1 (q .boards) (q .k)) (Z2 (q .boards) (q .k))
   current-plane j =
       let on = oneOf j (chain boards k) in
       let p = theI-plane in
-      record { e1 = only-if q on (p .e1); e2 = only-if q on (p .e2); e0 = only-if q (oneOf j (zeroChain boards k)) (p .e0) }
+      record { e1 = only-if on (p .e1); e2 = only-if on (p .e2); e0 = only-if (oneOf j (zeroChain boards k)) (p .e0) }
 
   -- ---- what is shown
   pub faultCurrents-fit : Smalls (2 ^ 62) (flat (faultCurrents q))

@@ -6,12 +6,9 @@ use Rattle.turn.specs.Number.{wholeN, complexN, _+N_, negN, _*N_, conjN, square
 use Rattle.turn.proofs.Conj.{complex-mul, complex-conj, complex-square}
 use Rattle.paper.specs.declared.Ohms.{Ohms}
 use Rattle.paper.specs.Fault.{numOf}
+use Rattle.paper.specs.Bounds.{Flat}
 
-pub record Flat (n : Num) : Type 0 where
-  pub no-t : n .x1 ≡ pos 0
-  pub no-t² : n .x2 ≡ pos 0
-
--- that is the form R + jX, with R and X the two coordinates left
+-- it is the form R + jX, with R and X the two coordinates left
 pub flat-is : {n : Num} → Flat n → n ≡ complexN (n .x0) (n .x3)
 flat-is {n} f = λ i. record { x0 = n .x0; x1 = f .no-t i; x2 = f .no-t² i; x3 = n .x3 }
 

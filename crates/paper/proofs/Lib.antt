@@ -15,6 +15,7 @@ pub mod Chain
 pub mod Before
 pub mod Next
 pub mod Shared
+pub mod Earth
 -- what the tests of the refusal table give
 pub mod Rows
 pub mod Fit

@@ -1,20 +1,21 @@
 -- What `turn`'s functions ask at each step, in the order in which the table is computed: of add, sub and conj each operand (Addable), of mul both (Factors), of neg,
 -- turn and square theirs. Assumes nothing.
+use mathlib.Core.Path.{_≡_, sym, subst}
 use Prim.Native.Nat.{ℕ}
 use lib.Dec.{lit≤}
 use lib.IntN.{ℤ}
 use Rattle.lemmas.specs.Small.{Small}
 use Rattle.turn.specs.declared.Num.{Num}
 use Rattle.turn.specs.Number.{wholeN, oneN, _+N_, _*N_, turnN, conjN}
-use Rattle.turn.specs.Bounds.{Addable, Negatable, Turnable, Squarable, Factors}
+use Rattle.turn.specs.Bounds.{Within, Addable, Negatable, Turnable, Squarable, Factors}
 use Rattle.turn.proofs.Within.{within-weak, within-add}
 use Rattle.paper.specs.declared.Ohms.{Ohms}
 use Rattle.paper.specs.declared.Seq.{Seq}
 use Rattle.paper.specs.Fault.{numOf}
-use Rattle.paper.proofs.Row.{EachSeq, GOf, rowOf}
-use Rattle.paper.specs.Bounds.{AtMost}
-use Rattle.paper.proofs.Plane.{Plane, plane-num, plane-whole, plane-add, plane-mul, plane-conj, plane-turn, addable, negatable, turnable, squarable, factors}
-use Rattle.paper.proofs.Sizes.{Ranged, mostD, mostI, mostW, plane-one, G-plane, divisor-plane, above-plane, drop-plane, sum-within}
+use Rattle.paper.proofs.Row.{GOf, rowOf}
+use Rattle.paper.specs.Bounds.{AtMost, Plane, EachSeq, mostD, mostI, mostW}
+use Rattle.paper.proofs.Plane.{plane-num, plane-whole, plane-add, plane-mul, plane-conj, plane-turn, addable, negatable, turnable, squarable, factors}
+use Rattle.paper.proofs.Sizes.{Ranged, plane-one, G-plane, divisor-plane, above-plane, drop-plane, sum-within}
 
 -- ---- the divisor
 -- "G = Z0 + 3Zf"
@@ -143,3 +144,10 @@ for-shown p a b =
       turned2 = within-weak (lit≤ tt) v;
       total = within-weak (lit≤ tt) (sum-within p a b);
     }
+
+-- ---- what holds of a number holds of a result that is that number
+pub within-is : {b : ℕ} {m n : Num} → m ≡ n → Within b n → Within b m
+within-is {b} e w = subst (Within b) (sym e) w
+
+pub factors-are : {k l m n : Num} → k ≡ m → l ≡ n → Factors m n → Factors k l
+factors-are d e f = rw (d, e) f

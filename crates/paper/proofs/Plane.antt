@@ -16,13 +16,8 @@ use Rattle.turn.proofs.Within.{within-weak, within-add, within-neg, within-comp
 use Rattle.paper.specs.declared.Ohms.{Ohms}
 use Rattle.paper.specs.Kind.{partOver}
 use Rattle.paper.specs.Fault.{numOf}
-use Rattle.paper.specs.Bounds.{AtMost}
-use Rattle.paper.proofs.Flat.{Flat, flat-is, flat-complex, flat-add, flat-neg, flat-mul, flat-conj}
-
--- R + jX with R and X at most b from 0
-pub record Plane (b : ℕ) (n : Num) : Type 0 where
-  pub flat : Flat n
-  pub within : Within b n
+use Rattle.paper.specs.Bounds.{AtMost, Plane}
+use Rattle.paper.proofs.Flat.{flat-is, flat-complex, flat-add, flat-neg, flat-mul, flat-conj}
 
 pub plane-num : {b : ℕ} {z : Ohms} → AtMost b z → Plane b (numOf z)
 unfolding numOf

@@ -1,17 +1,13 @@
 -- The fault table over impedances: what holds of each row holds of the row of every kind. Assumes nothing.
-use Prim.Native.Nat.{ℕ, zero, suc}
+use mathlib.Core.Path.{_≡_}
+use Prim.Native.Nat.{ℕ, zero, suc, _≤_}
 use lib.IntN.{ℤ}
+use lib.ListN.{List·getD-eq-default}
 use Rattle.turn.specs.declared.Num.{Num}
 use Rattle.turn.specs.Number.{oneN, _+N_, negN}
 use Rattle.paper.specs.declared.Ohms.{Ohms}
 use Rattle.paper.specs.declared.Seq.{Seq}
 use Rattle.paper.specs.Fault.{nilN, numOf, seq, Short, G, Δ, shorts, shortOf, D, currents}
-
--- what holds of each sequence
-pub record EachSeq (P : Num → Type 0) (s : Seq) : Type 0 where
-  pub e1 : P (s .s1)
-  pub e2 : P (s .s2)
-  pub e0 : P (s .s0)
 
 -- P speaks of a divisor and of what stands above the line
 module _ (Z1 Z2 Z0 Zf : Num) (P : Num → Seq → Type 0) where
@@ -28,6 +24,11 @@ module _ (Z1 Z2 Z0 Zf : Num) (P : Num → Seq → Type 0) where
   each-row p0 p1 p2 p3 p4 (suc (suc zero)) = p2
   each-row p0 p1 p2 p3 p4 (suc (suc (suc zero))) = p3
   each-row p0 p1 p2 p3 p4 (suc (suc (suc (suc k)))) = p4
+
+-- a number that is no kind has the default row
+pub no-row : (Z1 Z2 Z0 Zf : Num) (kind : ℕ) → 4 ≤ kind → shortOf Z1 Z2 Z0 Zf kind ≡ record { divisor = oneN; above = seq nilN nilN nilN }
+unfolding shortOf shorts
+no-row Z1 Z2 Z0 Zf kind h = List·getD-eq-default (shorts Z1 Z2 Z0 Zf) _ h
 
 -- the table over impedances
 module _ (z1 z2 z0 zf : Ohms) where

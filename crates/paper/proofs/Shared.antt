@@ -54,11 +54,11 @@ module _ (bs : Boards) (k : ℕ) where
 
 -- ---- zero sequence
 module _ (bs : Boards) (k : ℕ) where
-  nothing : (j : ℕ) → common (zeroChain bs j) (zeroChain bs k) ≡ [] → shared0 bs j k ≡ ohms 0 0
+  pub nothing : (j : ℕ) → common (zeroChain bs j) (zeroChain bs k) ≡ [] → shared0 bs j k ≡ ohms 0 0
   unfolding shared0 sumΩ
   nothing j e = ap (sumΩ (term0 bs)) e
 
-  empty-shares : (j : ℕ) → zeroChain bs j ≡ [] → shared0 bs j k ≡ ohms 0 0
+  pub empty-shares : (j : ℕ) → zeroChain bs j ≡ [] → shared0 bs j k ≡ ohms 0 0
   unfolding common
   empty-shares j e = nothing j (rw e)
 

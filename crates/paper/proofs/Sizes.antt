@@ -20,11 +20,11 @@ use Rattle.paper.specs.declared.Ohms.{Ohms}
 use Rattle.paper.specs.Kind.{_+Ω_}
 use Rattle.paper.specs.declared.Seq.{Seq}
 use Rattle.paper.specs.Fault.{nilN, numOf, seq, G, Δ, shorts, shortOf, currents}
-use Rattle.paper.specs.Phase.{shows}
-use Rattle.paper.proofs.Row.{EachSeq, each-row, GOf, ΔOf, rowOf, DOf, IOf}
+use Rattle.paper.specs.Phase.{voltageOf, shows}
+use Rattle.paper.proofs.Row.{each-row, GOf, ΔOf, rowOf, DOf, IOf}
 use Rattle.paper.proofs.Square.{earthed, sq, dot, sqΔ, real-Δ, each-D}
-use Rattle.paper.specs.Bounds.{AtMost}
-use Rattle.paper.proofs.Plane.{Plane, plane-num, plane-whole, plane-weak, plane-add, plane-neg, plane-sub, plane-mul, plane-conj, plane-turn}
+use Rattle.paper.specs.Bounds.{AtMost, Plane, EachSeq, mostD, mostI, mostW}
+use Rattle.paper.proofs.Plane.{plane-num, plane-whole, plane-weak, plane-add, plane-neg, plane-sub, plane-mul, plane-conj, plane-turn}
 
 -- ---- the bounds
 abbrev pub mostG : ℕ
@@ -42,21 +42,9 @@ mostΔ = 167690250
 abbrev pub mostAbove : ℕ
 mostAbove = 12285
 
--- of D: 100 · 4,095⁴, where all parts are greatest
-abbrev pub mostD : ℕ
-mostD = 28120019945062500
-
--- of a sequence current: 2 · 12,285 · 167,690,250
-abbrev pub mostI : ℕ
-mostI = 4120149442500
-
--- of an impedance times it: 2 · 4,095 times that
+-- of an impedance times a sequence current: 2 · 4,095 times mostI
 abbrev pub mostDrop : ℕ
 mostDrop = 33744023934075000
-
--- of a referred voltage
-abbrev pub mostW : ℕ
-mostW = 61864043879137500
 
 -- the impedances of an accepted question
 pub record Ranged (z1 z2 z0 zf : Ohms) : Type 0 where
@@ -64,6 +52,10 @@ pub record Ranged (z1 z2 z0 zf : Ohms) : Type 0 where
   pub upto2 : AtMost 4095 z2
   pub upto0 : AtMost 4095 z0
   pub uptof : AtMost 1365 zf
+
+-- the four clauses of a contract as one record
+pub ranged : {z1 z2 z0 zf : Ohms} → AtMost 4095 z1 × (AtMost 4095 z2 × (AtMost 4095 z0 × AtMost 1365 zf)) → Ranged z1 z2 z0 zf
+ranged (u1, (u2, (u0, uf))) = record { upto1 = u1; upto2 = u2; upto0 = u0; uptof = uf }
 
 -- ---- D, as the natural number that it is
 upto-add : {b d : ℕ} {y z : Ohms} → AtMost b y → AtMost d z → AtMost (b + d) (y +Ω z)
@@ -185,12 +177,9 @@ module _ {z1 z2 z0 zf : Ohms} (s : Ranged z1 z2 z0 zf) where
 pub drop-plane : {z : Ohms} {n : Num} → AtMost 4095 z → Plane mostI n → Plane mostDrop (numOf z *N n)
 drop-plane u p = plane-mul (plane-num u) p
 
--- "W1 = 1 - Z1jk·I1, W2 = -Z2jk·I2, W0 = -Z0jk·I0", over D
-abbrev pub voltageOf : ℤ → Seq → Ohms → Ohms → Ohms → Seq
-voltageOf D I za zb zc = seq (wholeN D -N numOf za *N I .s1) (negN (numOf zb *N I .s2)) (negN (numOf zc *N I .s0))
-
 pub voltageOf-plane : {D : ℤ} {I : Seq} {za zb zc : Ohms} → Small mostD D → EachSeq (Plane mostI) I → AtMost 4095 za → AtMost 4095 zb → AtMost 4095 zc
     → EachSeq (Plane mostW) (voltageOf D I za zb zc)
+unfolding voltageOf
 voltageOf-plane d p ua ub uc =
     record {
       e1 = plane-sub (plane-whole d) (drop-plane ua (p .e1));

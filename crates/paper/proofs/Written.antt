@@ -1,15 +1,11 @@
 -- Files written out, for the figures: text and numbers as the paper's bytes. Assumes nothing.
 use mathlib.Core.List.{List, [], _∷_, _++_}
 use Prim.Native.Nat.{ℕ, _/_, _%_}
-use Prim.Native.Char.{code}
 use Prim.Native.String as S
 use lib.ListN.{take}
 use Rattle.paper.specs.declared.Ohms.{Ohms}
+use Rattle.paper.specs.Bytes.{text}
 use Rattle.paper.specs.Label.{spaces, Label·open}
-
-unfoldable pub text : S.String → List ℕ
-text S.[] = []
-text (S._∷_ c s) = code c ∷ text s
 
 -- a label: text, then spaces to the end
 unfoldable pub label : S.String → List ℕ

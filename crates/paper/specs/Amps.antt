@@ -1,7 +1,7 @@
 -- 01, 'The four faults at board k': "Amps: the greatest whole n not above |I|·volts·1,000,000/unit". Assumes nothing.
 use mathlib.Core.Bool.{cond}
 use mathlib.Core.List.{List, [], _∷_}
-use Prim.Native.Nat.{ℕ, zero, suc, _*_, _/_}
+use Prim.Native.Nat.{ℕ, zero, suc, _+_, _*_, _/_}
 use lib.Dec.{leb}
 use lib.IntN.{natAbs}
 use lib.ListN.{getD}
@@ -9,6 +9,7 @@ use Rattle.turn.specs.declared.Num.{Num}
 use Rattle.turn.specs.Number.{_+N_, _*N_, conjN}
 use Rattle.paper.specs.declared.Head.{Head}
 use Rattle.paper.specs.declared.Fault.{Fault}
+use Rattle.paper.specs.declared.Ohms.{Ohms}
 use Rattle.paper.specs.declared.Seq.{Seq}
 use Rattle.paper.specs.Phase.{Asked, theD, theI, shows}
 
@@ -46,6 +47,10 @@ module _ (q : Asked) where
   unfoldable pub amps : ℕ
   amps = greatest ampsOver ampsUnder
 
+-- |I|²·D in closed form: |1|², |3|², |t⁸ - t⁴|² and |3 Z2|² (and 0 for a number that is no kind). That it is saidSquare over D is a theorem (proofs/, `Amps`)
+unfoldable pub factor : Ohms → ℕ → ℕ
+factor z2 kind = getD (1 ∷ 9 ∷ 3 ∷ 9 * (z2 .r * z2 .r + z2 .x * z2 .x) ∷ []) kind 0
+
 unfoldable pub Amps·open : Unit {0}
-unfolding root greatest said saidSquare ampsOver ampsUnder amps
+unfolding root greatest said saidSquare ampsOver ampsUnder amps factor
 Amps·open = tt

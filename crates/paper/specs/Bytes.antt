@@ -2,6 +2,8 @@
 use mathlib.Core.Bool.{Bool, true, false, _&&_, _||_}
 use mathlib.Core.List.{List, [], _∷_}
 use Prim.Native.Nat.{ℕ, zero, suc, _+_, _*_}
+use Prim.Native.Char.{code}
+use Prim.Native.String as S
 use lib.Dec.{leb, eqb}
 use lib.ListN.{getD, take, drop}
 use Rattle.paper.specs.declared.Lent.{Lent}
@@ -26,6 +28,11 @@ cut s start len = take len (drop start s)
 abbrev pub part : Lent → ℕ → ℕ → Part
 part w s n = record { whose = w; start = s; len = n }
 
+-- words as bytes
+unfoldable pub text : S.String → List ℕ
+text S.[] = []
+text (S._∷_ c s) = code c ∷ text s
+
 -- ---- tests
 unfoldable pub sameBytes : List ℕ → List ℕ → Bool
 sameBytes [] [] = true
@@ -42,5 +49,5 @@ unfoldable pub within : ℕ → ℕ → ℕ → Bool
 within a b n = leb a n && leb n b
 
 unfoldable pub Bytes·open : Unit {0}
-unfolding bytesAt sameBytes oneOf within
+unfolding bytesAt text sameBytes oneOf within
 Bytes·open = tt

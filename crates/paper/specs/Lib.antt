@@ -15,5 +15,5 @@ pub mod Amps
 pub mod Rows
 pub mod Refusal
 pub mod Answer
--- what contracts ask of impedances
+-- what contracts ask of impedances and of numbers
 pub mod Bounds

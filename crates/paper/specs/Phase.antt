@@ -10,6 +10,7 @@ use Rattle.paper.specs.declared.Fault.{Fault}
 use Rattle.paper.specs.Bytes.{oneOf}
 use Rattle.paper.specs.File.{headOf, faultOf, boardsOf}
 use Rattle.paper.specs.Chain.{Boards, placeOf, chain, zeroChain, Z1, Z2, Z0, shared1, shared2, shared0, turnOf}
+use Rattle.paper.specs.declared.Ohms.{Ohms}
 use Rattle.paper.specs.declared.Seq.{Seq}
 use Rattle.paper.specs.Fault.{nilN, numOf, seq, D, currents}
 
@@ -26,6 +27,15 @@ asked net flt =
     let f = faultOf flt in
     record { head = headOf net; boards = bs; fault = f; k = placeOf (f .label) bs }
 
+-- a number, or zero
+unfoldable pub onlyIf : Bool → Num → Num
+onlyIf true n = n
+onlyIf false n = nilN
+
+-- "W1 = 1 - Z1jk·I1, W2 = -Z2jk·I2, W0 = -Z0jk·I0", over D, of the impedances that j and k share
+unfoldable pub voltageOf : ℤ → Seq → Ohms → Ohms → Ohms → Seq
+voltageOf D I za zb zc = seq (wholeN D -N numOf za *N I .s1) (negN (numOf zb *N I .s2)) (negN (numOf zc *N I .s0))
+
 module _ (q : Asked) where
   open Asked q using (boards, fault, k)
 
@@ -36,17 +46,11 @@ module _ (q : Asked) where
   unfoldable pub theI : Seq
   theI = currents (numOf (Z1 boards k)) (numOf (Z2 boards k)) (numOf (Z0 boards k)) (numOf (fault .zf)) (fault .kind)
 
-  -- "The referred voltages of board j are W1 = 1 - Z1jk·I1, W2 = -Z2jk·I2, W0 = -Z0jk·I0", over D
+  -- "The referred voltages of board j"
   unfoldable pub voltage : ℕ → Seq
-  voltage j =
-      seq (wholeN theD -N numOf (shared1 boards j k) *N theI .s1) (negN (numOf (shared2 boards j k) *N theI .s2))
-      (negN (numOf (shared0 boards j k) *N theI .s0))
+  voltage j = voltageOf theD theI (shared1 boards j k) (shared2 boards j k) (shared0 boards j k)
 
   -- "A record on k's chain carries I1 and I2; it carries I0 if it also lies on k's zero-sequence sum; otherwise zero."
-  unfoldable pub onlyIf : Bool → Num → Num
-  onlyIf true n = n
-  onlyIf false n = nilN
-
   unfoldable pub current : ℕ → Seq
   current j =
       let on = oneOf j (chain boards k) in
@@ -82,5 +86,5 @@ module _ (q : Asked) where
   recordCurrents j = phases (fault .phase) (turnOf boards j) (turnOf boards k) (current q j)
 
 unfoldable pub Phase·open : Unit {0}
-unfolding asked theD theI voltage onlyIf current shows phase phases faultCurrents boardVoltages recordCurrents
+unfolding asked voltageOf theD theI voltage onlyIf current shows phase phases faultCurrents boardVoltages recordCurrents
 Phase·open = tt

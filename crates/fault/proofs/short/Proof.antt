@@ -9,10 +9,10 @@ use Rattle.turn.specs.Number.{_*N_, conjN, squareN}
 use Rattle.paper.specs.declared.Seq.{Seq}
 use Rattle.paper.specs.Fault.{seq, D, currents}
 use Rattle.paper.proofs.Row.{rowOf}
-use Rattle.paper.proofs.Needs.{ForCurrents, for-currents}
+use Rattle.paper.proofs.Needs.{ForCurrents, for-currents, within-is, factors-are}
+use Rattle.paper.proofs.Sizes.{ranged}
 use Rattle.fault.specs.declared.Shorted.{Shorted}
 use Rattle.fault.specs.Short.{shortedOf}
-use Rattle.fault.proofs.Bounds.{within-is, factors-are, ranged}
 use Rattle.fault.proofs.short.Statement.{statement}
 use Rattle.fault.proofs.short.Tie as tie
 
@@ -27,6 +27,24 @@ asked c =
 -- D and the currents, of a divisor, its conjugate and what stands above it
 abbrev over : Num → Num → Seq → Shorted
 over n c a = record { d = squareN n; i = seq (a .s1 *N c) (a .s2 *N c) (a .s0 *N c) }
+
+-- what was computed, of the results that it was computed from
+computed : (c : tie.After-square) → let m = c .before .before in let a = m .before .before .before .before .before .before in
+    _≡_ {A = Shorted} (record { d = kept (c .square .result); i = c .before .seq .result }) (over (a .before .before .divisor .result) (a .before .conj .result) (a .above .result))
+computed c =
+    let m = c .before .before in
+    λ i. record {
+      d = (toZ-ofZ {w = w64} {z = c .square .result} (search needs) ∙ c .square .ensures) i;
+      i = (c .before .seq .ensures ∙ (λ j. seq (m .before .before .mul .ensures j) (m .before .mul2 .ensures j) (m .mul3 .ensures j))) i;
+    }
+
+-- and of what those results are
+made : (c : tie.After-above) → let z = c .before .before .before .args in
+    over (c .before .before .divisor .result) (c .before .conj .result) (c .above .result) ≡ shortedOf (z .z1) (z .z2) (z .z0) (z .zf) (z .kind)
+unfolding shortedOf D currents
+made c =
+    let n = c .before .before .divisor .ensures in
+    λ i. over (n i) ((c .before .conj .ensures ∙ ap conjN n) i) (above-is c i)
 
 divisor-requires : tie.Need-divisor-requires
 divisor-requires c κs = search needs
@@ -51,24 +69,6 @@ seq-requires c κs = search needs
 
 square-requires : tie.Need-square-requires
 square-requires c κs = asked (c .before .before .before .before .before .before .before) .square
-
--- what was computed, of the results that it was computed from
-computed : (c : tie.After-square) → let m = c .before .before in let a = m .before .before .before .before .before .before in
-    _≡_ {A = Shorted} (record { d = kept (c .square .result); i = c .before .seq .result }) (over (a .before .before .divisor .result) (a .before .conj .result) (a .above .result))
-computed c =
-    let m = c .before .before in
-    λ i. record {
-      d = (toZ-ofZ {w = w64} {z = c .square .result} (search needs) ∙ c .square .ensures) i;
-      i = (c .before .seq .ensures ∙ (λ j. seq (m .before .before .mul .ensures j) (m .before .mul2 .ensures j) (m .mul3 .ensures j))) i;
-    }
-
--- and of what those results are
-made : (c : tie.After-above) → let z = c .before .before .before .args in
-    over (c .before .before .divisor .result) (c .before .conj .result) (c .above .result) ≡ shortedOf (z .z1) (z .z2) (z .z0) (z .zf) (z .kind)
-unfolding shortedOf D currents
-made c =
-    let n = c .before .before .divisor .ensures in
-    λ i. over (n i) ((c .before .conj .ensures ∙ ap conjN n) i) (above-is c i)
 
 returns : tie.Need-returns
 returns c = computed c ∙ made (c .before .before .before .before .before .before .before .before)

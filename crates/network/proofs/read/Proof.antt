@@ -13,9 +13,9 @@ use Rattle.network.proofs.read.Reads as reads
 use Rattle.network.proofs.read.Lts as lts
 use Rattle.file.proofs.bytes.head_of.Reads as head-of-reads
 use Rattle.network.proofs.head_number.Reads as head-number-reads
-use Rattle.network.proofs.judge.judge.Reads as judge-reads
+use Rattle.records.proofs.judge.Reads as judge-reads
 use Rattle.network.proofs.refused.Reads as refused-reads
-use Rattle.network.proofs.table.decode.Reads as decode-reads
+use Rattle.records.proofs.table.decode.Reads as decode-reads
 use Rattle.search.proofs.lookup_all.Reads as lookup-all-reads
 
 head-number-requires : tie.Need-head-number-requires

@@ -1,14 +1,15 @@
 -- `network::refused` meets its contract: the tables are empty. Assumes nothing.
-use Rattle.network.specs.Node.{noNode}
-use Rattle.network.specs.Network.{emptyBoard}
-use Rattle.network.proofs.Tables.{empty-table, refused-is}
+use Rattle.feed.specs.Node.{noNode}
+use Rattle.records.specs.Tables.{emptyBoard}
+use Rattle.records.proofs.Tables.{empty-table}
+use Rattle.network.proofs.Whole.{refused-is}
 use borrow.Author.Needs.{needs}
 use Rattle.network.proofs.refused.Statement.{statement}
 use Rattle.network.proofs.refused.Tie as tie
 use Rattle.network.proofs.refused.Reads as reads
 use Rattle.network.proofs.refused.Lts as lts
-use Rattle.network.proofs.sums.no_node.Reads as no-node-reads
-use Rattle.network.proofs.table.empty_board.Reads as empty-board-reads
+use Rattle.feed.proofs.sums.no_node.Reads as no-node-reads
+use Rattle.records.proofs.table.empty_board.Reads as empty-board-reads
 
 empty-board-requires : tie.Need-empty-board-requires
 empty-board-requires c κs = search needs

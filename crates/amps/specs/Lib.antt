@@ -1,0 +1,2 @@
+-- What the contracts of the amps cite beside the paper's own definitions.
+pub mod Positive

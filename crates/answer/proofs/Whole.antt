@@ -1,0 +1,148 @@
+-- The whole answer, of a question that was posed. Assumes nothing.
+use mathlib.Core.Bool.{Bool}
+use mathlib.Core.List.{List, [], _∷_, _++_}
+use mathlib.Core.Path.{_≡_, refl, sym, _∙_, ap, subst}
+use Prim.Native.Nat.{ℕ, zero, suc, _+_, _*_, _-_, _≤_, _<_}
+use native.Mathlib.Decide.{decLe}
+use native.Mathlib.Omega.{arith}
+use borrow.Rule.Slice.PartMut.{putMid}
+use lib.IntN.{ℤ, pos, natAbs}
+use lib.ListN.{length, getD, replicate}
+use lib.Seq.{getD-append-add}
+use Rattle.lemmas.specs.Over.{over}
+use Rattle.lemmas.proofs.Over.{put-over, over-then, over-length}
+use Rattle.root.specs.Root.{Root}
+use Rattle.paper.specs.declared.Head.{Head}
+use Rattle.paper.specs.declared.Fault.{Fault}
+use Rattle.paper.specs.Bounds.{AtMost}
+use Rattle.paper.specs.Chain.{Z2}
+use Rattle.paper.specs.Phase.{Asked, theD, phases, faultCurrents}
+use Rattle.paper.specs.Amps.{amps, factor}
+use Rattle.paper.specs.Answer.{flat, numbers, ofBoards}
+use Rattle.paper.proofs.Chain.{feeder-earlier}
+use Rattle.paper.proofs.Amps.{voltsSquare}
+use Rattle.feed.specs.declared.Node.{Node}
+use Rattle.feed.specs.Node.{nodeOf, noNode}
+use Rattle.records.specs.Tables.{table, nodesOf}
+use Rattle.records.proofs.Tables.{table-at}
+use Rattle.records.proofs.Reading.{nodes-length, nodes-at}
+use Rattle.amps.specs.Positive.{Positive}
+use Rattle.amps.proofs.Asked.{theD-positive, amps-are}
+use Rattle.share.specs.Share.{FromEarlier, marksOf}
+use Rattle.answer.specs.declared.Faulted.{Faulted}
+use Rattle.answer.specs.Faulted.{faultedFrom, topOf}
+use Rattle.answer.specs.Posed.{Ready, Posed, Passing}
+use Rattle.answer.proofs.Pass.{here, faulted-is}
+
+-- ---- nodes in their table
+module _ (q : Asked) where
+  open Asked q using (boards)
+
+  abbrev nodes : List Node
+  nodes = table noNode (nodesOf boards)
+
+  in-table : (i : ℕ) → i < length boards → getD nodes i noNode ≡ nodeOf boards (suc i)
+  in-table i h =
+      let m = nodes-length boards 1 (length boards) in
+      let e : 1 + i ≡ suc i = omega arith in
+      table-at noNode (nodesOf boards) i noNode (omega arith) ∙ nodes-at noNode boards 1 (length boards) i h ∙ ap (nodeOf boards) e
+
+  nothing-there : (n i : ℕ) → getD (replicate n noNode) i noNode ≡ noNode
+  nothing-there zero i = refl
+  nothing-there (suc n) zero = refl
+  nothing-there (suc n) (suc i) = nothing-there n i
+
+  past-table : (i : ℕ) → length boards ≤ i → getD nodes i noNode ≡ noNode
+  unfolding table
+  past-table i h =
+      let m = nodes-length boards 1 (length boards) in
+      let e : i ≡ length (nodesOf boards) + (i - length (nodesOf boards)) = omega arith in
+      ap (λ (k : ℕ). getD nodes k noNode) e ∙ getD-append-add (nodesOf boards) (replicate (256 - length (nodesOf boards)) noNode) (i - length (nodesOf boards)) noNode
+      ∙ nothing-there (256 - length (nodesOf boards)) (i - length (nodesOf boards))
+
+  pub all-earlier : FromEarlier nodes
+  unfolding nodeOf
+  all-earlier = record { earlier = λ i. go i (decLe (suc i) (length boards)) }
+    where
+      go : (i : ℕ) → Dec (suc i ≤ length boards) → getD nodes i noNode .feeder ≤ i
+      go i (yes h) = let e = ap (λ (n : Node). n .feeder) (in-table i h) in omega (arith, feeder-earlier boards i)
+      go i (no h) = let e = ap (λ (n : Node). n .feeder) (past-table i (omega arith)) in omega arith
+
+-- ---- D and the fault's currents in front
+top-length : (g : Faulted) → length (topOf g) ≡ 13
+unfolding topOf phases flat
+top-length g = refl
+
+pub room-stays : (g : Faulted) (out : List ℤ) {part : List ℤ} → part ≡ topOf g → 13 ≤ length out → length (putMid 0 13 out part) ≡ length out
+room-stays g out {part} e h = ap length (put-over 0 13 out part (topOf g) e (sym (top-length g))) ∙ over-length (pos 0) 0 (topOf g) out (omega (arith, top-length g))
+
+-- ---- what was posed
+module _ {q : Asked} {h : Head} {ns : List Node} {f : Fault} {k : ℕ} (p : Posed q h ns f k) where
+  pub earlier-all : FromEarlier ns
+  earlier-all = subst FromEarlier (sym (p .nodes-are)) (all-earlier q)
+
+  pub at-is : getD ns (k - 1) noNode ≡ nodeOf (q .boards) (q .k)
+  at-is =
+      let a = p .ready .k-from in
+      let b = p .ready .k-to in
+      let c = p .same-place in
+      let e : suc (k - 1) ≡ q .k = omega arith in
+      ap (λ (l : List Node). getD l (k - 1) noNode) (p .nodes-are) ∙ in-table q (k - 1) (omega arith) ∙ ap (nodeOf (q .boards)) e
+
+  pub passing : {at : Node} {g : Faulted} {on : List Bool} {n : ℕ} → n ≡ h .boards → at ≡ getD ns (k - 1) noNode → g ≡ faultedFrom at f → on ≡ marksOf ns k → Passing q ns n on g
+  passing e a b c =
+      record {
+        ready = p .ready;
+        nodes-are = p .nodes-are;
+        all = e ∙ ap (λ (x : Head). x .boards) (p .same-head) ∙ p .ready .count;
+        marks-are = c ∙ ap (marksOf ns) (p .same-place);
+        faulted-is = b ∙ (λ i. faultedFrom ((a ∙ at-is) i) (p .same-fault i));
+      }
+
+  -- D and the currents in front, and the boards behind them
+  pub whole : {g : Faulted} (out : List ℤ) {part out′ : List ℤ} {n : ℕ} → n ≡ h .boards → g ≡ faultedFrom (nodeOf (q .boards) (q .k)) (q .fault) → part ≡ topOf g → out′ ≡ over 13 (ofBoards q 1 n) (putMid 0 13 out part) → out′ ≡ over 0 (numbers q) out
+  unfolding topOf numbers faultCurrents phases flat
+  whole {g} out {part} {n = n} c e t w =
+      let top = topOf (here q (p .ready)) in
+      let m : n ≡ length (q .boards) = c ∙ ap (λ (x : Head). x .boards) (p .same-head) ∙ p .ready .count in
+      w ∙ ap (over 13 (ofBoards q 1 n)) (put-over 0 13 out part top (t ∙ ap topOf (e ∙ faulted-is q (p .ready))) refl) ∙ over-then 0 top (ofBoards q 1 n) out (omega arith)
+      ∙ ap (λ (i : ℕ). over 0 (top ++ ofBoards q 1 i) out) m
+
+  -- ---- what the calls ask
+  pub in-range : let at = getD ns (k - 1) noNode in (AtMost 4095 (at .z1)) × (AtMost 4095 (at .z2)) × (AtMost 4095 (at .z0)) × (AtMost 1365 (f .zf))
+  unfolding nodeOf
+  in-range =
+      let s = p .ready .sums-in (q .k) (p .ready .k-from) (p .ready .k-to) in
+      (rw at-is (s .sum1), rw at-is (s .sum2), rw at-is (s .sum0), subst (λ (x : Fault). AtMost 1365 (x .zf)) (sym (p .same-fault)) (p .ready .zf-in))
+
+  pub k-in : (1 ≤ k) × (k ≤ 256)
+  k-in =
+      let a = p .ready .k-from in
+      let b = p .ready .k-to in
+      let c = p .ready .few in
+      let d = p .same-place in
+      (omega arith, omega arith)
+
+  pub faulted-good : {g : Faulted} → g ≡ faultedFrom (getD ns (k - 1) noNode) f → g ≡ faultedFrom (nodeOf (q .boards) (q .k)) (q .fault)
+  faulted-good e = e ∙ (λ i. faultedFrom (at-is i) (p .same-fault i))
+
+  d-is : {g : Faulted} → g ≡ faultedFrom (getD ns (k - 1) noNode) f → g .d ≡ theD q
+  d-is e = ap (λ (x : Faulted). x .d) (faulted-good e ∙ faulted-is q (p .ready))
+
+  pub d-positive : {g : Faulted} {d : ℤ} → d ≡ g .d → g ≡ faultedFrom (getD ns (k - 1) noNode) f → Positive d
+  d-positive c e = subst Positive (sym (c ∙ d-is e)) (theD-positive q (p .ready .Z1-there) (p .ready .Z2-there))
+
+  pub volts-in : (h .volts ≤ 1000) × (1 ≤ h .unit)
+  volts-in = subst (λ (x : Head). (x .volts ≤ 1000) × (1 ≤ x .unit)) (sym (p .same-head)) (p .ready .volts-to, p .ready .unit-from)
+
+  -- ---- the amps
+  abbrev rootOf : Node → Fault → Head → ℤ → ℕ → Type 0
+  rootOf at x y d n = Root (factor (at .z2) (x .kind) * ((y .volts * 1000000) * (y .volts * 1000000))) (natAbs d * (y .unit * y .unit)) n
+
+  pub amps-good : {g : Faulted} {d : ℤ} (n : ℕ) → d ≡ g .d → g ≡ faultedFrom (getD ns (k - 1) noNode) f
+      → Root (factor (getD ns (k - 1) noNode .z2) (f .kind) * ((h .volts * 1000000) * (h .volts * 1000000))) (natAbs d * (h .unit * h .unit)) n → n ≡ amps q
+  unfolding nodeOf
+  amps-good {g} {d} n c e r =
+      amps-are q (p .ready .Z1-there) (p .ready .Z2-there) (p .ready .sums-in (q .k) (p .ready .k-from) (p .ready .k-to) .sum2) (p .ready .volts-to) (p .ready .unit-from) n
+      (subst (λ (x : ℤ). rootOf (nodeOf (q .boards) (q .k)) (q .fault) (q .head) x n) (c ∙ d-is e) (subst (λ (x : Head). rootOf (nodeOf (q .boards) (q .k)) (q .fault) x d n) (p .same-head)
+      (subst (λ (x : Fault). rootOf (nodeOf (q .boards) (q .k)) x h d n) (p .same-fault) (subst (λ (x : Node). rootOf x f h d n) at-is r))))

@@ -1,0 +1,49 @@
+// The answer in the caller's buffer: D and the fault's currents, then the 24 numbers of each board in file order.
+mod board;
+mod boards;
+mod put;
+
+ghost use mathlib.Core.Path.{_≡_};
+ghost use Prim.Native.Nat.{_≤_};
+ghost use lib.ListN.{length};
+ghost use Rattle.lemmas.specs.Over.{over};
+ghost use Rattle.paper.specs.Phase.{Asked};
+ghost use Rattle.paper.specs.Refusal.{answerSize};
+ghost use Rattle.paper.specs.Amps.{amps};
+ghost use Rattle.paper.specs.Answer.{numbers};
+ghost use Rattle.answer.specs.Posed.{Posed};
+use amps::amps;
+use board::faulted;
+use board::top;
+use boards::boards;
+use feed::Node;
+use paper::Fault;
+use paper::Head;
+use paper::Seq;
+use share::chain;
+
+// The fault at its board: the currents over D, D, and the board's own start of zero sequence, turn and odd phase.
+pub struct Faulted {
+    pub i: Seq,
+    pub d: i64,
+    pub start: u16,
+    pub turn: u16,
+    pub phase: u8,
+}
+
+// Of whatever question this is the head, the nodes, the fault and the faulted board's place: its amps, and its numbers from the front of the buffer.
+pub fn answer(head: Head, nodes: [Node; 256], fault: Fault, k: usize, out: &mut [i64]) -> u64
+    requires { ⌜ ((q : Asked) × Posed q head nodes fault k × (answerSize (head .boards) ≤ length (now out))) ⌝ }
+    ensures { λ r. ⌜ ((q : Asked) → Posed q head nodes fault k → r ≡ amps q) ⌝ }
+    ensures { λ _. ⌜ ((q : Asked) → Posed q head nodes fault k → now (out .exit) ≡ over 0 (numbers q) (now (out .entry))) ⌝ }
+{
+    let n = head.boards as usize;
+    let i = k - 1;
+    let at = nodes[i];
+    let f = faulted(at, fault);
+    let on = chain(nodes, k);
+    top(&mut out[0..13], f);
+    boards(nodes, n, on, f, out);
+    let z2 = at.z2;
+    amps(head.volts, head.unit, z2, f.d, fault.kind)
+}

@@ -1,0 +1,3 @@
+-- each outcome of `ask`, and what an outcome says
+pub mod Outcomes
+pub mod Laws

@@ -1,0 +1,2 @@
+-- what the boards' lines say
+pub mod Boards

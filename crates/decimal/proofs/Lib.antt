@@ -1,0 +1,5 @@
+-- text behind text
+pub mod Writes
+pub mod Decimal
+mod Signed
+mod Row

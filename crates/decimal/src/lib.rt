@@ -1,0 +1,98 @@
+// Bytes and numbers as text, written into a lent buffer. Each function writes from a place on and returns the place behind.
+ghost use mathlib.Core.List.{_∷_, []};
+ghost use mathlib.Core.Path.{_≡_};
+ghost use Prim.Native.Nat.{_+_, _≤_};
+ghost use lib.IntN.{natAbs, pos};
+ghost use lib.ListN.{length, take, drop};
+ghost use Rattle.decimal.specs.Decimal.{decimal, signed, row};
+ghost use Rattle.decimal.specs.Wrote.{Room, Wrote};
+
+pub fn put_byte(out: &mut [u8], at: usize, b: u8) -> usize
+    requires { ⌜ Room at (b ∷ []) (now out) ⌝ }
+    ensures { λ r. ⌜ Wrote at (b ∷ []) (now (out .entry)) (now (out .exit)) r ⌝ }
+{
+    out[at] = b;
+    at + 1
+}
+
+pub fn put_bytes(out: &mut [u8], at: usize, s: &[u8]) -> usize
+    requires { ⌜ Room at (now s) (now out) ⌝ }
+    ensures { λ r. ⌜ Wrote at (now (s .entry)) (now (out .entry)) (now (out .exit)) r ⌝ }
+{
+    let mut i: usize = 0;
+    while i < s.len() {
+        out[at + i] = s[i];
+        i += 1;
+    }
+    at + i
+}
+
+// The last digit goes behind the others.
+fn put_decimal(out: &mut [u8], at: usize, n: u64) -> usize
+    requires { ⌜ Room at (decimal n) (now out) ⌝ }
+    ensures { λ r. ⌜ Wrote at (decimal n) (now (out .entry)) (now (out .exit)) r ⌝ }
+{
+    if n < 10 {
+        return put_byte(out, at, 0x30 + n as u8);
+    }
+    let end = put_decimal(out, at, n / 10);
+    put_byte(out, end, 0x30 + (n % 10) as u8)
+}
+
+// How far a number is from 0. Down by one from 0, so that the least number has its own too.
+pub fn magnitude(z: i64) -> u64
+    ensures { λ r. ⌜ r ≡ natAbs z ⌝ }
+{
+    if z < 0 {
+        let less = -1 - z;
+        return less as u64 + 1;
+    }
+    z as u64
+}
+
+fn put_number(out: &mut [u8], at: usize, z: i64) -> usize
+    requires { ⌜ Room at (0x20 ∷ signed z) (now out) ⌝ }
+    ensures { λ r. ⌜ Wrote at (0x20 ∷ signed z) (now (out .entry)) (now (out .exit)) r ⌝ }
+{
+    let n = magnitude(z);
+    let a = put_byte(out, at, b' ');
+    if z < 0 {
+        let b = put_byte(out, a, b'-');
+        return put_decimal(out, b, n);
+    }
+    put_decimal(out, a, n)
+}
+
+// A number without a sign, a space before it.
+pub fn put_field(out: &mut [u8], at: usize, n: u64) -> usize
+    requires { ⌜ Room at (0x20 ∷ decimal n) (now out) ⌝ }
+    ensures { λ r. ⌜ Wrote at (0x20 ∷ decimal n) (now (out .entry)) (now (out .exit)) r ⌝ }
+{
+    let from = put_byte(out, at, b' ');
+    put_decimal(out, from, n)
+}
+
+// Two numbers without a sign, to the line's end.
+pub fn put_pair(out: &mut [u8], at: usize, m: u64, n: u64) -> usize
+    requires { ⌜ Room at (row (pos m ∷ pos n ∷ [])) (now out) ⌝ }
+    ensures { λ r. ⌜ Wrote at (row (pos m ∷ pos n ∷ [])) (now (out .entry)) (now (out .exit)) r ⌝ }
+{
+    let a = put_field(out, at, m);
+    let b = put_field(out, a, n);
+    put_byte(out, b, b'\n')
+}
+
+// A line's last byte before its numbers, the n from a place on, the line's end.
+pub fn put_row(out: &mut [u8], at: usize, head: u8, zs: &[i64], from: usize, n: usize) -> usize
+    requires { ⌜ from + n ≤ length (now zs) ⌝ }
+    requires { ⌜ Room at (head ∷ row (take n (drop from (now zs)))) (now out) ⌝ }
+    ensures { λ r. ⌜ Wrote at (head ∷ row (take n (drop from (now (zs .entry))))) (now (out .entry)) (now (out .exit)) r ⌝ }
+{
+    let mut end = put_byte(out, at, head);
+    let mut i: usize = 0;
+    while i < n {
+        end = put_number(out, end, zs[from + i]);
+        i += 1;
+    }
+    put_byte(out, end, b'\n')
+}

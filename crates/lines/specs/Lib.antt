@@ -1,0 +1,2 @@
+-- what each line says
+pub mod Lines

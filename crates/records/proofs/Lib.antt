@@ -1,0 +1,5 @@
+pub mod Tables
+pub mod Records
+pub mod Reading
+pub mod Turn
+pub mod One

@@ -1,0 +1,96 @@
+-- A turn of the reader's loop, in the code's own terms: what it reads is the record's, and so its step goes on or refuses the network. Assumes nothing.
+use mathlib.Core.List.{List, []}
+use mathlib.Core.Logic.{_⊎_}
+use mathlib.Core.Option.{some}
+use mathlib.Core.Path.{_≡_, refl, sym, _∙_, ap, subst}
+use Prim.Native.Nat.{ℕ, zero, suc, _+_, _*_, _-_, _≤_, _<_}
+use native.Mathlib.Numerals.{add-one}
+use native.Mathlib.Omega.{arith}
+use lib.ListN.{length, getD, set}
+use Rattle.paper.specs.declared.Board.{Board}
+use Rattle.paper.specs.Bytes.{u16At}
+use Rattle.paper.specs.File.{markOf, boardOf, boardsOf}
+use Rattle.paper.specs.Chain.{noBoard, placeOf}
+use Rattle.paper.specs.Refusal.{theRecord}
+use Rattle.search.specs.Places.{placesOf}
+use Rattle.search.proofs.Laws.{own-at, fed-at}
+use Rattle.feed.specs.declared.Node.{Node}
+use Rattle.inspect.specs.declared.Step.{Step}
+use Rattle.records.specs.declared.Judged.{Judged}
+use Rattle.feed.specs.Node.{nodeOf, noNode, UpSmall}
+use Rattle.inspect.specs.Rules.{earlier, stepOf}
+use Rattle.records.specs.Tables.{table, emptyBoard, nodesFrom}
+use Rattle.records.specs.Judgement.{Judgement}
+use Rattle.records.proofs.Records.{count, bytesOf, boards-count, board-at, mark-at}
+use Rattle.records.proofs.Tables.{table-at}
+use Rattle.records.proofs.Reading.{Read, read-all, before, feeder, up-is, up-small, step-refused, step-passes}
+
+module _ (net : List ℕ) (i : ℕ) (nodes : List Node) (h : i < count net) (read : Read net i nodes) (few : count net ≤ 256) where
+  abbrev pub b : Board
+  b = boardOf (bytesOf net i)
+
+  abbrev pub own : ℕ
+  own = placeOf (b .label) (boardsOf net)
+
+  abbrev pub fed : ℕ
+  fed = placeOf (b .feeder) (boardsOf net)
+
+  -- what the turn reads
+  pub board-read : (d : Board) {boards : List Board} → boards ≡ table emptyBoard (boardsOf net) → getD boards i d ≡ b
+  board-read d e = ap (λ (l : List Board). getD l i d) e ∙ table-at emptyBoard (boardsOf net) i d (omega (arith, boards-count net)) ∙ board-at net d i h
+
+  pub own-read : {l : List ℕ} → l ≡ placesOf (boardsOf net) .own → getD l i 0 ≡ own
+  own-read e =
+      ap (λ (x : List ℕ). getD x i 0) e ∙ own-at (boardsOf net) i (omega (arith, boards-count net)) (omega (arith, boards-count net))
+      ∙ ap (λ (x : Board). placeOf (x .label) (boardsOf net)) (board-at net noBoard i h)
+
+  pub fed-read : {l : List ℕ} → l ≡ placesOf (boardsOf net) .fed → getD l i 0 ≡ fed
+  fed-read e =
+      ap (λ (x : List ℕ). getD x i 0) e ∙ fed-at (boardsOf net) i (omega (arith, boards-count net)) (omega (arith, boards-count net))
+      ∙ ap (λ (x : Board). placeOf (x .feeder) (boardsOf net)) (board-at net noBoard i h)
+
+  -- the feeder's node, as the code picks it
+  module _ {f : ℕ} (f-is : f ≡ earlier (i + 1) fed) where
+    here : f ≡ feeder net i nodes h read
+    here = f-is ∙ ap (λ (m : ℕ). earlier m fed) (add-one i)
+
+    pub up-read : (d : Node) {up : Node} → ((f ≡ 0 → ⊥) × (up ≡ getD nodes (f - 1) d)) ⊎ ((f ≡ 0) × (up ≡ noNode)) → up ≡ nodeOf (before net i nodes h read) (feeder net i nodes h read)
+    up-read d {up} w = up-is net i nodes h read d (subst (λ (k : ℕ). ((k ≡ 0 → ⊥) × (up ≡ getD nodes (k - 1) d)) ⊎ ((k ≡ 0) × (up ≡ noNode))) here w)
+
+  module _ {up : Node} (up-right : up ≡ nodeOf (before net i nodes h read) (feeder net i nodes h read)) where
+    pub up-fits : UpSmall up
+    up-fits = up-small net i nodes h read up few up-right
+
+    module _ {s : Step} (s-is : s ≡ stepOf (i + 1) (u16At net (8 + 44 * i)) b own fed up) where
+      right : s ≡ stepOf (suc i) (markOf (bytesOf net i)) b own fed up
+      right = s-is ∙ (λ j. stepOf (add-one i j) (mark-at net i j) b own fed up)
+
+      pub goes-on : s .number ≡ 0 → Read net (i + 1) (set nodes i (s .node))
+      goes-on e =
+          subst (λ (t : Step). Read net (i + 1) (set nodes i (t .node))) (sym right)
+          (subst (λ (m : ℕ). Read net m (set nodes i (stepOf (suc i) (markOf (bytesOf net i)) b own fed up .node))) (sym (add-one i))
+          (step-passes net i nodes h read few up up-right (sym (ap (λ (t : Step). t .number) right) ∙ e)))
+
+      pub refuses : (s .number ≡ 0 → ⊥) → Judgement net (record { nodes = nodes; place = i + 1; number = s .number })
+      refuses f =
+          record {
+            all-kept = λ e. absurd (f e);
+            none-placed = λ e. absurd (f e);
+            placed = λ e. omega arith;
+            nodes-before = λ e. let m : i ≡ i + 1 - 1 = omega arith in read .are ∙ ap (λ (k : ℕ). table noNode (nodesFrom (boardsOf net) 1 k)) m;
+            first-broken =
+                λ n e. step-refused net i nodes h read few up up-right n (sym (ap (λ (t : Step). t .number) right) ∙ e)
+                ∙ ap (λ (m : ℕ). some (record { part = theRecord m; place = m; number = suc n })) (sym (add-one i));
+          }
+
+-- ---- and at the end all are kept
+pub all-read : (net : List ℕ) {i : ℕ} {nodes : List Node} → Read net i nodes → count net ≤ i → Judgement net (record { nodes = nodes; place = 0; number = 0 })
+all-read net {i} {nodes} r h =
+    let e : i ≡ length (boardsOf net) = omega (arith, r .to, boards-count net) in
+    record {
+      all-kept = λ z. (read-all net r h, r .are ∙ ap (λ (m : ℕ). table noNode (nodesFrom (boardsOf net) 1 m)) e);
+      none-placed = λ z. refl;
+      placed = λ f. absurd (f refl);
+      nodes-before = λ f. absurd (f refl);
+      first-broken = λ n z. absurd (omega arith);
+    }

@@ -1,0 +1,208 @@
+-- `records::judge` meets its contract: after i turns i records have passed. Assumes nothing.
+use mathlib.Core.List.{List, []}
+use mathlib.Core.Logic.{_⊎_, inl, inr, ⊎-elim}
+use mathlib.Core.Path.{_≡_, refl, sym, _∙_, ap, subst}
+use Prim.Native.Nat.{ℕ, suc, _+_, _*_, _-_, _≤_, _<_}
+use native.Mathlib.Omega.{arith}
+use borrow.Author.Needs.{needs}
+use lib.ListN.{length}
+use Rattle.feed.specs.declared.Node.{Node}
+use Rattle.paper.specs.Bytes.{u16At}
+use Rattle.paper.specs.Chain.{noBoard}
+use Rattle.search.specs.declared.Places.{Places}
+use Rattle.feed.specs.Node.{nodeOf, noNode}
+use Rattle.inspect.specs.Rules.{earlier, stepOf}
+use Rattle.records.specs.Tables.{table, emptyBoard}
+use Rattle.records.proofs.Tables.{empty-table}
+use Rattle.records.proofs.Reading.{Read, read-none, before, feeder}
+use Rattle.records.proofs.Records.{count}
+use Rattle.records.proofs.Turn.{b, own, fed, board-read, own-read, fed-read, up-read, up-fits, goes-on, refuses, all-read}
+use Rattle.records.proofs.judge.Statement.{statement}
+use Rattle.records.proofs.judge.Tie as tie
+use Rattle.records.proofs.judge.Reads as reads
+use Rattle.records.proofs.judge.Lts as lts
+use Rattle.file.proofs.bytes.u16_at.Reads as u16-at-reads
+use Rattle.records.proofs.wide.Reads as wide-reads
+use Rattle.inspect.proofs.rules.earlier.Reads as earlier-reads
+use Rattle.inspect.proofs.rules.step.Reads as step-reads
+use Rattle.feed.proofs.sums.no_node.Reads as no-node-reads
+
+abbrev Inv-loop : tie.InvT-loop
+Inv-loop net n boards none own fed nodes₀ i₀ nodes i = (i ≤ n) × Read net i nodes
+
+abbrev μ-loop : tie.MeasureT-loop
+μ-loop net n boards none own fed nodes₀ i₀ nodes i = n - i
+
+no-node-requires : tie.Need-no-node-requires Inv-loop μ-loop
+no-node-requires c κs = search needs
+
+loop-holds : tie.Need-loop-holds Inv-loop μ-loop
+loop-holds c =
+    let s = c .before .before .before .before in
+    (omega arith, subst (Read (s .args .net .now) 0) (sym (empty-table noNode (c .before .before .no-node .ensures))) (read-none (s .args .net .now)))
+
+add-r : tie.Need-add-r Inv-loop μ-loop
+add-r c = omega arith
+
+mul-u16-at : tie.Need-mul-u16-at Inv-loop μ-loop
+mul-u16-at c = omega arith
+
+add-u16-at : tie.Need-add-u16-at Inv-loop μ-loop
+add-u16-at c = omega arith
+
+u16-at-requires : tie.Need-u16-at-requires Inv-loop μ-loop
+u16-at-requires c κs = search needs
+
+mul-b : tie.Need-mul-b Inv-loop μ-loop
+mul-b c = omega arith
+
+array-copy-out-b : tie.Need-array-copy-out-b Inv-loop μ-loop
+array-copy-out-b c = omega arith
+
+mul-wide : tie.Need-mul-wide Inv-loop μ-loop
+mul-wide c = omega arith
+
+array-read-wide : tie.Need-array-read-wide Inv-loop μ-loop
+array-read-wide c = omega arith
+
+wide-requires : tie.Need-wide-requires Inv-loop μ-loop
+wide-requires c κs = search needs
+
+mul-wide-2 : tie.Need-mul-wide-2 Inv-loop μ-loop
+mul-wide-2 c = omega arith
+
+array-read-wide-2 : tie.Need-array-read-wide-2 Inv-loop μ-loop
+array-read-wide-2 c = omega arith
+
+wide-requires-2 : tie.Need-wide-requires-2 Inv-loop μ-loop
+wide-requires-2 c κs = search needs
+
+earlier-requires : tie.Need-earlier-requires Inv-loop μ-loop
+earlier-requires c κs = search needs
+
+sub-up : tie.Need-sub-up Inv-loop μ-loop
+sub-up c = omega arith
+
+mul-up : tie.Need-mul-up Inv-loop μ-loop
+mul-up c = omega arith
+
+array-copy-out-up : tie.Need-array-copy-out-up Inv-loop μ-loop
+array-copy-out-up c = omega arith
+
+-- ---- what a turn knows, where the feeder's node is picked
+abbrev Turn : Type 0
+Turn = tie.Joined1 Inv-loop μ-loop
+
+abbrev start : Turn → tie.Start Inv-loop μ-loop
+start c = c .before .before .before .before .before .before .before .before .before .before .before .before
+
+abbrev net : Turn → List ℕ
+net c = start c .args .net .now
+
+abbrev at : Turn → ℕ
+at c = c .before .before .before .before .before .before .before .loop .i
+
+abbrev nodes : Turn → List Node
+nodes c = c .before .before .before .before .before .before .before .loop .nodes
+
+read : (c : Turn) → Read (net c) (at c) (nodes c)
+read c = c .before .before .before .before .before .before .before .loop .inv .1
+
+in-file : (c : Turn) → at c < count (net c)
+in-file c = let n = start c .pre .0 in let l = c .before .before .before .before .before .before .loop-test .taken in omega arith
+
+few : (c : Turn) → count (net c) ≤ 256
+few c = let n = start c .pre .0 in let l = start c .pre .1 in omega arith
+
+fed-is : (c : Turn) → c .before .before .wide2 .result ≡ fed (net c) (at c) (nodes c) (in-file c) (read c) (few c)
+fed-is c = c .before .before .wide2 .ensures ∙ fed-read (net c) (at c) (nodes c) (in-file c) (read c) (few c) (ap (λ (p : Places). p .fed) (start c .pre .4))
+
+own-is : (c : Turn) → c .before .before .before .wide .result ≡ own (net c) (at c) (nodes c) (in-file c) (read c) (few c)
+own-is c = c .before .before .before .wide .ensures ∙ own-read (net c) (at c) (nodes c) (in-file c) (read c) (few c) (ap (λ (p : Places). p .own) (start c .pre .4))
+
+up-good : (c : Turn) → c .if1 .up ≡ nodeOf (before (net c) (at c) (nodes c) (in-file c) (read c)) (feeder (net c) (at c) (nodes c) (in-file c) (read c))
+up-good c =
+    up-read (net c) (at c) (nodes c) (in-file c) (read c) (few c) (c .before .earlier .ensures .0 ∙ ap (earlier (at c + 1)) (fed-is c)) noNode
+    (⊎-elim (λ w. inl (w .0 .taken, w .2)) (λ w. inr (w .0 .left, w .1 ∙ c .before .before .before .before .before .before .before .before .before .before .no-node .ensures)) (c .if1 .came))
+
+step-requires : tie.Need-step-requires Inv-loop μ-loop
+step-requires c κs = (let l = c .before .before .before .before .before .before .loop-test .taken in let n = start c .pre .1 in omega arith, up-fits (net c) (at c) (nodes c) (in-file c) (read c) (few c) (up-good c))
+
+step-is : (c : tie.After-step Inv-loop μ-loop) → let j = c .before in
+    c .step .result ≡ stepOf (at j + 1) (u16At (net j) (8 + 44 * at j)) (b (net j) (at j) (nodes j) (in-file j) (read j) (few j)) (own (net j) (at j) (nodes j) (in-file j) (read j) (few j))
+    (fed (net j) (at j) (nodes j) (in-file j) (read j) (few j))
+    (j .if1 .up)
+step-is c =
+    let j = c .before in
+    c .step .ensures
+    ∙ (λ k. stepOf (at j + 1) (j .before .before .before .before .before .u16-at .ensures k)
+    (board-read (net j) (at j) (nodes j) (in-file j) (read j) (few j) noBoard (start j .pre .3) k)
+    (own-is j k)
+    (fed-is j k)
+    (j .if1 .up))
+
+cast-t38 : tie.Need-cast-t38 Inv-loop μ-loop
+cast-t38 c = omega arith
+
+returns : tie.Need-returns Inv-loop μ-loop
+returns c =
+    let j = c .before .before in
+    refuses (net j) (at j) (nodes j) (in-file j) (read j) (few j) (up-good j) (step-is (c .before)) (c .if2 .taken)
+
+mul-nodes : tie.Need-mul-nodes Inv-loop μ-loop
+mul-nodes c = omega arith
+
+array-set-from-nodes : tie.Need-array-set-from-nodes Inv-loop μ-loop
+array-set-from-nodes c = omega arith
+
+add-i : tie.Need-add-i Inv-loop μ-loop
+add-i c = omega arith
+
+loop-less : tie.Need-loop-less Inv-loop μ-loop
+loop-less c = omega arith
+
+loop-again : tie.Need-loop-again Inv-loop μ-loop
+loop-again c =
+    let j = c .before .before .before in
+    let l = j .before .before .before .before .before .before .loop-test .taken in
+    (omega arith, goes-on (net j) (at j) (nodes j) (in-file j) (read j) (few j) (up-good j) (step-is (c .before .before)) (c .before .if2 .left))
+
+returns-2 : tie.Need-returns-2 Inv-loop μ-loop
+returns-2 c =
+    let s = c .before .before .before .before .before .before in
+    let n = s .pre .0 in
+    all-read (s .args .net .now) (c .before .loop .inv .1) (omega arith)
+
+pub judge-spec : {M : Type 1} → statement M
+judge-spec =
+    tie.close
+    (tie.spec
+    Inv-loop
+    μ-loop
+    no-node-requires
+    loop-holds
+    add-r
+    mul-u16-at
+    add-u16-at
+    u16-at-requires
+    mul-b
+    array-copy-out-b
+    mul-wide
+    array-read-wide
+    wide-requires
+    mul-wide-2
+    array-read-wide-2
+    wide-requires-2
+    earlier-requires
+    sub-up
+    mul-up
+    array-copy-out-up
+    step-requires
+    cast-t38
+    returns
+    mul-nodes
+    array-set-from-nodes
+    add-i
+    loop-less
+    loop-again
+    returns-2)

@@ -1,0 +1,71 @@
+// The records, decoded, and judged in file order: "5 to 11 are all tried on one record before the next."
+pub mod table;
+
+ghost use mathlib.Core.Path.{_≡_};
+ghost use Prim.Native.Nat.{_+_, _*_, _≤_};
+ghost use lib.ListN.{length};
+ghost use Rattle.paper.specs.File.{headOf, boardsOf};
+ghost use Rattle.search.specs.Places.{placesOf};
+ghost use Rattle.records.specs.Tables.{table, emptyBoard};
+ghost use Rattle.records.specs.Judgement.{Judgement};
+use feed::Node;
+use feed::sums::no_node;
+use file::bytes::u16_at;
+use inspect::rules::earlier;
+use inspect::rules::step;
+use paper::Board;
+use search::Places;
+
+// The records judged: the number and the place of the first that is refused, or 0, 0 and all nodes.
+pub struct Judged {
+    pub nodes: [Node; 256],
+    pub place: u16,
+    pub number: u8,
+}
+
+// A place as an index: a cast in a call of its own, so that the loop's proof carries none.
+fn wide(x: u16) -> usize
+    ensures { λ r. ⌜ r ≡ x ⌝ }
+{
+    x as usize
+}
+
+pub fn judge(net: &[u8], n: usize, boards: [Board; 256], places: Places) -> Judged
+    requires { ⌜ (n ≡ headOf (now net) .boards) × (n ≤ 256) × (length (now net) ≡ 8 + 44 * n) × (boards ≡ table emptyBoard (boardsOf (now net))) × (places ≡ placesOf (boardsOf (now net))) ⌝ }
+    ensures { λ r. ⌜ Judgement (now (net .entry)) r ⌝ }
+{
+    let none = no_node();
+    let own = places.own;
+    let fed = places.fed;
+    let mut nodes = [none; 256];
+    let mut i: usize = 0;
+    while i < n {
+        let r = i + 1;
+        let mark = u16_at(net, 8 + 44 * i);
+        let b = boards[i];
+        let mine = wide(own[i]);
+        let theirs = wide(fed[i]);
+        let feeder = earlier(r, theirs);
+        let mut up = none;
+        if feeder != 0 {
+            up = nodes[feeder - 1];
+        }
+        let s = step(r, mark, b, mine, theirs, up);
+        let number = s.number;
+        if number != 0 {
+            return Judged {
+                nodes,
+                place: r as u16,
+                number,
+            };
+        }
+        let node = s.node;
+        nodes[i] = node;
+        i += 1;
+    }
+    Judged {
+        nodes,
+        place: 0,
+        number: 0,
+    }
+}

@@ -1,0 +1,35 @@
+-- One pass over the boards computes the paper's chain, shared impedances and currents. Assumes nothing.
+use mathlib.Core.Bool.{Bool, true, false, cond}
+use mathlib.Core.Path.{_≡_, refl, sym, _∙_, ap}
+use Prim.Native.Nat.{ℕ, zero, suc}
+use lib.Dec.{eqb}
+use borrow.Author.Tests.{eqb-true, eqb-false}
+use Rattle.paper.specs.declared.Ohms.{Ohms}
+use Rattle.paper.specs.Bytes.{oneOf}
+use Rattle.paper.specs.Kind.{ohms}
+use Rattle.paper.specs.Chain.{Boards, feederOf, chain, startsAt, Z1, Z2, Z0, shared1, shared2, shared0}
+use Rattle.paper.proofs.Shared.{shared1-none, shared1-on, shared1-off, shared2-none, shared2-on, shared2-off, shared0-none, shared-apart}
+use Rattle.paper.proofs.Earth.{shared0-own, shared0-feeders}
+use Rattle.feed.specs.declared.Node.{Node}
+use Rattle.feed.specs.Node.{nodeOf}
+use Rattle.share.specs.declared.Shared.{Shared}
+use Rattle.share.specs.Share.{noShare, sharedOf, shareFrom}
+
+pub made : {a b c a' b' c' : Ohms} → a ≡ a' → b ≡ b' → c ≡ c' → _≡_ {A = Shared} (record { z1 = a; z2 = b; z0 = c }) (record { z1 = a'; z2 = b'; z0 = c' })
+made p q r = λ i. record { z1 = p i; z2 = q i; z0 = r i }
+
+module _ (bs : Boards) (k : ℕ) where
+  pub share-none : sharedOf bs k 0 ≡ noShare
+  unfolding sharedOf
+  share-none = made (shared1-none bs k) (shared2-none bs k) (shared0-none bs k)
+
+  pub share-next : (q : ℕ) → shareFrom (oneOf (suc q) (chain bs k)) (nodeOf bs (suc q)) (startsAt bs k) (sharedOf bs k (feederOf bs (suc q))) ≡ sharedOf bs k (suc q)
+  unfolding shareFrom sharedOf nodeOf
+  share-next q = go (oneOf (suc q) (chain bs k)) refl (eqb (startsAt bs (suc q)) (startsAt bs k)) refl
+    where
+      go : (on : Bool) → oneOf (suc q) (chain bs k) ≡ on → (same : Bool) → eqb (startsAt bs (suc q)) (startsAt bs k) ≡ same →
+          shareFrom (oneOf (suc q) (chain bs k)) (nodeOf bs (suc q)) (startsAt bs k) (sharedOf bs k (feederOf bs (suc q))) ≡ sharedOf bs k (suc q)
+      go true o true s = rw (o, s) (sym (made (shared1-on bs k (suc q) o) (shared2-on bs k (suc q) o) (shared0-own bs k (suc q) o (eqb-true (startsAt bs (suc q)) (startsAt bs k) s))))
+      go true o false s = rw (o, s) (sym (made (shared1-on bs k (suc q) o) (shared2-on bs k (suc q) o) (shared-apart bs k (suc q) (eqb-false (startsAt bs (suc q)) (startsAt bs k) s))))
+      go false o true s = rw (o, s) (sym (made (shared1-off bs k q o) (shared2-off bs k q o) (shared0-feeders bs k q o (eqb-true (startsAt bs (suc q)) (startsAt bs k) s))))
+      go false o false s = rw (o, s) (sym (made (shared1-off bs k q o) (shared2-off bs k q o) (shared-apart bs k (suc q) (eqb-false (startsAt bs (suc q)) (startsAt bs k) s))))

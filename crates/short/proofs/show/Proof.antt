@@ -1,0 +1,46 @@
+-- `short::show`: the text lies on the page. Assumes nothing.
+use mathlib.Core.Path.{sym}
+use native.Mathlib.Omega.{arith}
+use lib.Seq.{length-take-le}
+use Rattle.text.proofs.Most.{printed-most}
+use borrow.Author.Needs.{needs}
+use Rattle.short.proofs.show.Statement.{statement}
+use Rattle.short.proofs.show.Tie as tie
+
+page-requires : tie.Need-page-requires
+page-requires c κs = search needs
+
+slice-aggregate-answer : tie.Need-slice-aggregate-answer
+slice-aggregate-answer c = search needs
+
+answer-requires : tie.Need-answer-requires
+answer-requires c κs = search needs
+
+on-page : tie.Need-array-share-prefix-out
+on-page c =
+    let s = c .before .before .before .before .before .before in
+    omega (arith, c .before .answer .ensures .behind, printed-most (s .args .net .now) (s .args .flt .now), c .before .answer .kept .0, c .before .before .before .page .ensures)
+
+array-share-prefix-out : tie.Need-array-share-prefix-out
+array-share-prefix-out c = on-page c
+
+slice-aggregate-write-all : tie.Need-slice-aggregate-write-all
+slice-aggregate-write-all c = sym (length-take-le _ _ (on-page (c .before)))
+
+write-all-requires : tie.Need-write-all-requires
+write-all-requires c κs = search needs
+
+returns : tie.Need-returns
+returns c = search needs
+
+pub show-spec : {M : Type 1} → statement M
+show-spec =
+    tie.close
+    (tie.spec
+    page-requires
+    slice-aggregate-answer
+    answer-requires
+    array-share-prefix-out
+    slice-aggregate-write-all
+    write-all-requires
+    returns)

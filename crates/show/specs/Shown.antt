@@ -1,0 +1,25 @@
+-- A part of the bytes that a call is lent, handed back. Assumes nothing.
+use mathlib.Core.List.{List}
+use mathlib.Core.Path.{_≡_}
+use Prim.Native.Nat.{ℕ, _+_, _≤_}
+use lib.ListN.{length}
+use denote.Ref.{RefT}
+use Rattle.paper.specs.declared.Lent.{Lent}
+use Rattle.paper.specs.declared.Lent.the-variants.{NetworkBytes, FaultBytes}
+use Rattle.paper.specs.declared.Part.{Part}
+use Rattle.paper.specs.Bytes.{cut}
+
+-- "the bytes it came in, network or fault"
+abbrev pub lent : {A : Type 0} → Lent → A → A → A
+lent NetworkBytes net flt = net
+lent FaultBytes net flt = flt
+
+-- the part lies within what it is a part of
+abbrev pub Within : Part → List ℕ → List ℕ → Type 0
+Within p net flt = p .start + p .len ≤ length (lent (p .whose) net flt)
+
+-- r is the part of the slice s that starts at a and is n long: these bytes, and no copy of them, for they stand a bytes behind the place where s stands
+pub record IsPart (s : RefT (List ℕ)) (a n : ℕ) (r : RefT (List ℕ)) : Type 0 where
+  pub bytes : r .now ≡ cut (s .now) a n
+  pub block : r .ptr .0 ≡ s .ptr .0
+  pub offset : r .ptr .1 ≡ s .ptr .1 + a

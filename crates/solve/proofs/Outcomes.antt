@@ -1,0 +1,115 @@
+-- Each outcome of a call, from the facts in the shape in which the branches have them: what the reader gave, what asking gave. Assumes nothing.
+use mathlib.Core.List.{List}
+use mathlib.Core.Option.{Option, none, some}
+use mathlib.Core.Path.{_≡_, refl, sym, _∙_, ap}
+use Prim.Native.Nat.{ℕ, _≤_}
+use native.Mathlib.Omega.{arith}
+use lib.IntN.{ℤ}
+use lib.ListN.{length, take}
+use Rattle.lemmas.specs.Over.{over}
+use Rattle.paper.specs.declared.Answer.{Answer}
+use Rattle.paper.specs.declared.Refusal.{Refusal}
+use Rattle.paper.specs.File.{faultOf, boardsOf}
+use Rattle.paper.specs.Chain.{Boards, placeOf}
+use Rattle.paper.specs.Rows.{first, _then_}
+use Rattle.paper.specs.Refusal.{theRecord, networkRefusal, faultRows, answerSize, refusal}
+use Rattle.paper.specs.Phase.{asked}
+use Rattle.paper.specs.Amps.{amps}
+use Rattle.paper.specs.Answer.{numbers, accepted, refused}
+use Rattle.paper.proofs.Accepted.{boards-length}
+use Rattle.paper.proofs.Given.{question}
+use Rattle.network.specs.declared.Network.{Network}
+use Rattle.network.specs.declared.Outcome.the-variants.{Accepted, Refused}
+use Rattle.network.specs.Network.{acceptedNetwork, judged, networkOf}
+use Rattle.network.proofs.Whole.{first-boards}
+use Rattle.ask.specs.declared.Question.{Question}
+use Rattle.ask.specs.Ask.{acceptedQuestion, askOf}
+use Rattle.ask.proofs.Laws.{never, kept, broken}
+use Rattle.answer.specs.Posed.{Posed}
+use Rattle.solve.proofs.Ready.{accepted-ready}
+use Rattle.solve.proofs.Promised.{Allowed, refused-verdict, refused-written, accepted-verdict, accepted-written}
+
+-- ---- what the reader's outcome says
+module _ (net : List ℕ) where
+  network-kept : networkOf net .outcome ≡ Accepted → (networkRefusal net ≡ none) × (networkOf net ≡ acceptedNetwork net)
+  unfolding networkOf judged
+  network-kept h = go (networkRefusal net) refl h
+    where
+      go : (o : Option Refusal) → networkRefusal net ≡ o → judged o net .outcome ≡ Accepted → (networkRefusal net ≡ none) × (judged o net ≡ acceptedNetwork net)
+      go none e h = (e, refl)
+      go (some r) e h = never h
+
+  network-broken : {why : Refusal} → networkOf net .outcome ≡ Refused why → networkRefusal net ≡ some why
+  unfolding networkOf judged
+  network-broken {why} h = go (networkRefusal net) refl h
+    where
+      go : (o : Option Refusal) → networkRefusal net ≡ o → judged o net .outcome ≡ Refused why → networkRefusal net ≡ some why
+      go none e h = never (sym h)
+      go (some q) e h = let same : q ≡ why = cc in e ∙ ap some same
+
+-- ---- 1 to 11: g was read
+pub refused-network : (net flt : List ℕ) (room : ℕ) {g : Network} {why : Refusal} → g ≡ networkOf net → g .outcome ≡ Refused why → refusal net flt room ≡ some why
+unfolding refusal _then_
+refused-network net flt room read h =
+    let e = network-broken net (ap (λ (x : Network). x .outcome) (sym read) ∙ h) in
+    ap (λ (o : Option Refusal). o then first (faultRows (boardsOf net) flt room)) e
+
+-- ---- g was read and accepted, and a was asked of it
+pub record Asking (net flt : List ℕ) (room : ℕ) (g : Network) (a : Question) : Type 0 where
+  pub read : g ≡ networkOf net
+  pub taken : g .outcome ≡ Accepted
+  pub told : a ≡ askOf (take (g .head .boards) (g .boards)) flt room
+
+module _ {net flt : List ℕ} {room : ℕ} {g : Network} {a : Question} (b : Asking net flt room g a) where
+  as-read : (networkRefusal net ≡ none) × (g ≡ acceptedNetwork net)
+  as-read = let k = network-kept net (ap (λ (x : Network). x .outcome) (sym (b .read)) ∙ b .taken) in (k .0, b .read ∙ k .1)
+
+  -- the boards that are asked are the network's
+  as-told : a ≡ askOf (boardsOf net) flt room
+  as-told = b .told ∙ ap (λ (bs : Boards). askOf bs flt room) (first-boards net (ap (λ (x : Network). x .head .boards) (as-read .1)) (ap (λ (x : Network). x .boards) (as-read .1)))
+
+  by-fault : refusal net flt room ≡ first (faultRows (boardsOf net) flt room)
+  unfolding refusal _then_
+  by-fault = ap (λ (o : Option Refusal). o then first (faultRows (boardsOf net) flt room)) (as-read .0)
+
+  -- 12 to 19
+  pub refused-fault : {why : Refusal} → a .outcome ≡ Refused why → refusal net flt room ≡ some why
+  refused-fault h = by-fault ∙ broken (boardsOf net) flt room (ap (λ (x : Question). x .outcome) (sym as-told) ∙ h)
+
+  -- none is broken, and the call holds the question
+  module _ (heard : a .outcome ≡ Accepted) where
+    as-kept : (first (faultRows (boardsOf net) flt room) ≡ none) × (askOf (boardsOf net) flt room ≡ acceptedQuestion (faultOf flt) (placeOf (faultOf flt .label) (boardsOf net)))
+    as-kept = kept (boardsOf net) flt room (ap (λ (x : Question). x .outcome) (sym as-told) ∙ heard)
+
+    pub none-broken : refusal net flt room ≡ none
+    none-broken = by-fault ∙ as-kept .0
+
+    pub as-posed : Posed (asked net flt) (g .head) (g .nodes) (a .fault) (a .k)
+    unfolding asked
+    as-posed =
+        record {
+          ready = accepted-ready net flt room none-broken;
+          same-head = ap (λ (x : Network). x .head) (as-read .1);
+          nodes-are = ap (λ (x : Network). x .nodes) (as-read .1);
+          same-fault = ap (λ (x : Question). x .fault) (as-told ∙ as-kept .1);
+          same-place = ap (λ (x : Question). x .k) (as-told ∙ as-kept .1);
+        }
+
+    pub as-counted : g .head .boards ≡ length (boardsOf net)
+    as-counted = ap (λ (x : Network). x .head .boards) (as-read .1) ∙ sym (boards-length net)
+
+    pub room-there : answerSize (g .head .boards) ≤ room
+    room-there = omega (arith, as-counted, question net flt room none-broken .room-enough)
+
+-- ---- what is returned and left
+module _ (net flt : List ℕ) (buffer : List ℤ) where
+  pub refuses : {r : Answer} {why : Refusal} → refusal net flt (length buffer) ≡ some why → r ≡ refused why → Allowed net flt buffer r buffer
+  refuses e r-is = (r-is ∙ sym (refused-verdict net flt (length buffer) e), sym (refused-written net flt buffer e))
+
+  pub accepts : {r : Answer} {a k n : ℕ} {out : List ℤ} → refusal net flt (length buffer) ≡ none → r ≡ record { amps = a; part = theRecord k; place = k; n = n; number = 0 }
+      → a ≡ amps (asked net flt) → k ≡ asked net flt .k → n ≡ length (boardsOf net) → out ≡ over 0 (numbers (asked net flt)) buffer → Allowed net flt buffer r out
+  unfolding accepted asked
+  accepts e r-is a-is k-is n-is out-is = (
+    r-is ∙ (λ i. record { amps = a-is i; part = theRecord (k-is i); place = k-is i; n = n-is i; number = 0 }) ∙ sym (accepted-verdict net flt (length buffer) e),
+    out-is ∙ sym (accepted-written net flt buffer e),
+  )

@@ -1,0 +1,39 @@
+// The voltages that a fault leaves at a board.
+ghost use mathlib.Core.Path.{_≡_};
+ghost use Rattle.lemmas.specs.Small.{Small};
+ghost use Rattle.turn.specs.Number.{_*N_};
+ghost use Rattle.paper.specs.Bounds.{AtMost, Plane, EachSeq, mostD, mostI};
+ghost use Rattle.paper.specs.Fault.{numOf};
+ghost use Rattle.paper.specs.Phase.{voltageOf};
+use divisor::num_of;
+use fault::seq;
+use paper::Ohms;
+use paper::Seq;
+use turn::Num;
+
+// An impedance times a sequence current.
+fn drop(z: Ohms, i: Num) -> Num
+    requires { ⌜ AtMost 4095 z ⌝ }
+    requires { ⌜ Plane mostI i ⌝ }
+    ensures { λ r. ⌜ r ≡ numOf z *N i ⌝ }
+{
+    num_of(z).mul(i)
+}
+
+// The referred voltages, over D, of a board that shares za, zb and zc with the faulted one.
+pub fn voltage(d: i64, i: Seq, za: Ohms, zb: Ohms, zc: Ohms) -> Seq
+    requires { ⌜ Small mostD d ⌝ }
+    requires { ⌜ EachSeq (Plane mostI) i ⌝ }
+    requires { ⌜ AtMost 4095 za ⌝ }
+    requires { ⌜ AtMost 4095 zb ⌝ }
+    requires { ⌜ AtMost 4095 zc ⌝ }
+    ensures { λ r. ⌜ r ≡ voltageOf d i za zb zc ⌝ }
+{
+    let i1 = i.s1;
+    let i2 = i.s2;
+    let i0 = i.s0;
+    let w1 = Num::whole(d).sub(drop(za, i1));
+    let w2 = drop(zb, i2).neg();
+    let w0 = drop(zc, i0).neg();
+    seq(w1, w2, w0)
+}
