@@ -41,6 +41,13 @@ use Rattle.answer.specs.declared.Faulted.{Faulted}
 use Rattle.answer.specs.Faulted.{faultedFrom, leftOf, passedOf, numbersOf, topOf, FaultSmall, ShareSmall}
 use Rattle.answer.specs.Posed.{Ready, Passing}
 
+-- ---- a board's node, off the table
+pub in-table : (boards : Boards) (i : ℕ) → i < length boards → getD (table noNode (nodesOf boards)) i noNode ≡ nodeOf boards (suc i)
+in-table boards i h =
+    let m = nodes-length boards 1 (length boards) in
+    let e : 1 + i ≡ suc i = omega arith in
+    table-at noNode (nodesOf boards) i noNode (omega arith) ∙ nodes-at noNode boards 1 (length boards) i h ∙ ap (nodeOf boards) e
+
 -- ---- a question that is ready
 module _ (q : Asked) (ready : Ready q) where
   open Asked q using (head, boards, fault, k)
@@ -111,12 +118,7 @@ module _ (q : Asked) (nodes : List Node) (n : ℕ) (on : List Bool) (f : Faulted
 
   -- what the tables say of board j + 1
   pub node-at : (j : ℕ) → j < n → getD nodes j noNode ≡ nodeOf boards (suc j)
-  node-at j h =
-      let m = nodes-length boards 1 (length boards) in
-      let a = p .all in
-      let e : 1 + j ≡ suc j = omega arith in
-      ap (λ l. getD l j noNode) (p .nodes-are) ∙ table-at noNode (nodesOf boards) j noNode (omega arith) ∙ nodes-at noNode boards 1 (length boards) j (omega arith)
-      ∙ ap (nodeOf boards) e
+  node-at j h = ap (λ l. getD l j noNode) (p .nodes-are) ∙ in-table boards j (omega (arith, p .all))
 
   pub mark-at : (j : ℕ) → j < n → getD on j false ≡ oneOf (suc j) (chain boards k)
   mark-at j h =

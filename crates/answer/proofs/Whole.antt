@@ -24,15 +24,14 @@ use Rattle.paper.proofs.Amps.{voltsSquare}
 use Rattle.feed.specs.declared.Node.{Node}
 use Rattle.feed.specs.Node.{nodeOf, noNode}
 use Rattle.records.specs.Tables.{table, nodesOf}
-use Rattle.records.proofs.Tables.{table-at}
-use Rattle.records.proofs.Reading.{nodes-length, nodes-at}
+use Rattle.records.proofs.Reading.{nodes-length}
 use Rattle.amps.specs.Positive.{Positive}
 use Rattle.amps.proofs.Asked.{theD-positive, amps-are}
 use Rattle.share.specs.Share.{FromEarlier, marksOf}
 use Rattle.answer.specs.declared.Faulted.{Faulted}
 use Rattle.answer.specs.Faulted.{faultedFrom, topOf}
 use Rattle.answer.specs.Posed.{Ready, Posed, Passing}
-use Rattle.answer.proofs.Pass.{here, faulted-is}
+use Rattle.answer.proofs.Pass.{in-table, here, faulted-is}
 
 -- ---- nodes in their table
 module _ (q : Asked) where
@@ -40,12 +39,6 @@ module _ (q : Asked) where
 
   abbrev nodes : List Node
   nodes = table noNode (nodesOf boards)
-
-  in-table : (i : ℕ) → i < length boards → getD nodes i noNode ≡ nodeOf boards (suc i)
-  in-table i h =
-      let m = nodes-length boards 1 (length boards) in
-      let e : 1 + i ≡ suc i = omega arith in
-      table-at noNode (nodesOf boards) i noNode (omega arith) ∙ nodes-at noNode boards 1 (length boards) i h ∙ ap (nodeOf boards) e
 
   nothing-there : (n i : ℕ) → getD (replicate n noNode) i noNode ≡ noNode
   nothing-there zero i = refl
@@ -65,7 +58,7 @@ module _ (q : Asked) where
   all-earlier = record { earlier = λ i. go i (decLe (suc i) (length boards)) }
     where
       go : (i : ℕ) → Dec (suc i ≤ length boards) → getD nodes i noNode .feeder ≤ i
-      go i (yes h) = let e = ap (λ (n : Node). n .feeder) (in-table i h) in omega (arith, feeder-earlier boards i)
+      go i (yes h) = let e = ap (λ (n : Node). n .feeder) (in-table boards i h) in omega (arith, feeder-earlier boards i)
       go i (no h) = let e = ap (λ (n : Node). n .feeder) (past-table i (omega arith)) in omega arith
 
 -- ---- D and the fault's currents in front
@@ -87,7 +80,7 @@ module _ {q : Asked} {h : Head} {ns : List Node} {f : Fault} {k : ℕ} (p : Pose
       let b = p .ready .k-to in
       let c = p .same-place in
       let e : suc (k - 1) ≡ q .k = omega arith in
-      ap (λ (l : List Node). getD l (k - 1) noNode) (p .nodes-are) ∙ in-table q (k - 1) (omega arith) ∙ ap (nodeOf (q .boards)) e
+      ap (λ (l : List Node). getD l (k - 1) noNode) (p .nodes-are) ∙ in-table (q .boards) (k - 1) (omega arith) ∙ ap (nodeOf (q .boards)) e
 
   pub passing : {at : Node} {g : Faulted} {on : List Bool} {n : ℕ} → n ≡ h .boards → at ≡ getD ns (k - 1) noNode → g ≡ faultedFrom at f → on ≡ marksOf ns k → Passing q ns n on g
   passing e a b c =
@@ -146,3 +139,12 @@ module _ {q : Asked} {h : Head} {ns : List Node} {f : Fault} {k : ℕ} (p : Pose
       amps-are q (p .ready .Z1-there) (p .ready .Z2-there) (p .ready .sums-in (q .k) (p .ready .k-from) (p .ready .k-to) .sum2) (p .ready .volts-to) (p .ready .unit-from) n
       (subst (λ (x : ℤ). rootOf (nodeOf (q .boards) (q .k)) (q .fault) (q .head) x n) (c ∙ d-is e) (subst (λ (x : Head). rootOf (nodeOf (q .boards) (q .k)) (q .fault) x d n) (p .same-head)
       (subst (λ (x : Fault). rootOf (nodeOf (q .boards) (q .k)) x h d n) (p .same-fault) (subst (λ (x : Node). rootOf x f h d n) at-is r))))
+
+-- ---- two results and two buffers that the contract allows are equal, since there is a question
+pub same-answer : {h : Head} {ns : List Node} {f : Fault} {k : ℕ} (q : Asked) → Posed q h ns f k → (n m : ℕ) → ((p : Asked) → Posed p h ns f k → n ≡ amps p) → ((p : Asked) → Posed p h ns f k → m ≡ amps p) → n ≡ m
+same-answer q p n m a b = a q p ∙ sym (b q p)
+
+pub same-buffer : {h : Head} {ns : List Node} {f : Fault} {k : ℕ} (q : Asked) → Posed q h ns f k → (out x y : List ℤ) → ((p : Asked) → Posed p h ns f k → x ≡ over 0 (numbers p) out)
+    → ((p : Asked) → Posed p h ns f k → y ≡ over 0 (numbers p) out)
+    → x ≡ y
+same-buffer q p out x y a b = a q p ∙ sym (b q p)

@@ -27,7 +27,7 @@ module _ (q : Asked) where
     pub sum0 : AtMost 4095 (Z0 boards j)
     pub turns : turnOf boards j ≤ 2816
 
-  -- what acceptance gives of a question (proofs/, `accepted-ready`)
+  -- what acceptance gives of a question (a theorem: solve/proofs/Ready, `accepted-ready`)
   pub record Ready : Type 0 where
     pub count : head .boards ≡ length boards
     pub few : length boards ≤ 256
@@ -50,7 +50,7 @@ module _ (q : Asked) where
     pub same-fault : f ≡ fault
     pub same-place : place ≡ k
 
-  -- the same in front of the pass over the boards
+  -- the same in front of the pass over the boards; no public contract cites it
   pub record Passing (nodes : List Node) (n : ℕ) (on : List Bool) (f : Faulted) : Type 0 where
     pub ready : Ready
     pub nodes-are : nodes ≡ table noNode (nodesOf boards)

@@ -43,6 +43,10 @@ copy-turn at i s o later e h l =
 pub wrote-length : {at end : ℕ} {s o o′ : List ℕ} → Room at s o → Wrote at s o o′ end → length o′ ≡ length o
 wrote-length {at} {end} {s} {o} room w = ap length (w .stands) ∙ over-length 0 at s o (room .fits)
 
+-- one buffer and one next place alone are what a text leaves
+pub same-text : {at m n : ℕ} {s o x y : List ℕ} → Wrote at s o x m → Wrote at s o y n → (x ≡ y) × (m ≡ n)
+same-text w v = (w .stands ∙ sym (v .stands), w .behind ∙ sym (v .behind))
+
 -- ---- a text behind a text
 -- room for both is room for the first
 pub room-front : {at : ℕ} {s o : List ℕ} (t : List ℕ) → Room at (s ++ t) o → Room at s o

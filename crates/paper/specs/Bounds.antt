@@ -37,6 +37,6 @@ mostD = 28120019945062500
 abbrev pub mostI : ℕ
 mostI = 4120149442500
 
--- of a referred voltage
+-- of a referred voltage: mostD + 2 · 4,095 · mostI
 abbrev pub mostW : ℕ
 mostW = 61864043879137500

@@ -4,6 +4,11 @@ use Rattle.decimal.proofs.Row.{pair-pieces}
 use Rattle.decimal.proofs.put_pair.Statement.{statement}
 use Rattle.decimal.proofs.put_pair.Tie as tie
 
+returns : tie.Need-returns
+returns c =
+    let s = c .before .before .before .before .before .before .before .before .before .before .before .before .before in
+    left-last (left-two (left-by (pair-pieces (s .args .m) (s .args .n)) (s .pre)) (c .before .before .before .before .before .before .before .before .before .before .put-field .ensures) (c .before .before .before .before .before .before .put-field2 .ensures)) (c .before .before .put-byte .ensures)
+
 put-field-requires : tie.Need-put-field-requires
 put-field-requires c κs =
     let s = c .before .before in
@@ -18,11 +23,6 @@ put-byte-requires : tie.Need-put-byte-requires
 put-byte-requires c κs =
     let s = c .before .before .before .before .before .before .before .before .before .before in
     left-two (left-by (pair-pieces (s .args .m) (s .args .n)) (s .pre)) (c .before .before .before .before .before .before .before .put-field .ensures) (c .before .before .before .put-field2 .ensures) .room
-
-returns : tie.Need-returns
-returns c =
-    let s = c .before .before .before .before .before .before .before .before .before .before .before .before .before in
-    left-last (left-two (left-by (pair-pieces (s .args .m) (s .args .n)) (s .pre)) (c .before .before .before .before .before .before .before .before .before .before .put-field .ensures) (c .before .before .before .before .before .before .put-field2 .ensures)) (c .before .before .put-byte .ensures)
 
 same-length : tie.Need-same-length
 same-length c = wrote-length (c .before .before .before .before .before .before .before .before .before .before .before .before .before .pre) (returns c)
