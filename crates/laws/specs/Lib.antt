@@ -1,0 +1,5 @@
+pub mod Values
+pub mod Connection
+pub mod Laws
+pub mod Seen
+pub mod Demand

@@ -1,0 +1,1 @@
+// Nothing runs here: demand 3 stands in specs/, and its proof in proofs/.
