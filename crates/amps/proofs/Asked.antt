@@ -10,7 +10,7 @@ use Rattle.paper.specs.Chain.{Z1, Z2}
 use Rattle.paper.specs.Phase.{Asked, theD}
 use Rattle.paper.specs.Amps.{amps, factor}
 use Rattle.paper.proofs.Divisor.{theD-natural, theD-least}
-use Rattle.paper.proofs.Amps.{voltsSquare, amps-only}
+use Rattle.amps.proofs.Exact.{voltsSquare, amps-only}
 use Rattle.amps.specs.Positive.{Positive}
 
 module _ (q : Asked) where

@@ -20,18 +20,20 @@ use Rattle.paper.specs.Phase.{Asked, theD, phases, faultCurrents}
 use Rattle.paper.specs.Amps.{amps, factor}
 use Rattle.paper.specs.Answer.{flat, numbers, ofBoards}
 use Rattle.paper.proofs.Chain.{feeder-earlier}
-use Rattle.paper.proofs.Amps.{voltsSquare}
-use Rattle.feed.specs.declared.Node.{Node}
-use Rattle.feed.specs.Node.{nodeOf, noNode}
-use Rattle.records.specs.Tables.{table, nodesOf}
-use Rattle.records.proofs.Reading.{nodes-length}
+use Rattle.amps.proofs.Exact.{voltsSquare}
+use Rattle.node.specs.declared.Node.{Node}
+use Rattle.node.specs.Node.{nodeOf, noNode}
+use Rattle.node.specs.Tables.{table, nodesOf}
+use Rattle.node.proofs.Tables.{nodes-length}
 use Rattle.amps.specs.Positive.{Positive}
 use Rattle.amps.proofs.Asked.{theD-positive, amps-are}
 use Rattle.share.specs.Share.{FromEarlier, marksOf}
-use Rattle.answer.specs.declared.Faulted.{Faulted}
-use Rattle.answer.specs.Faulted.{faultedFrom, topOf}
-use Rattle.answer.specs.Posed.{Ready, Posed, Passing}
-use Rattle.answer.proofs.Pass.{in-table, here, faulted-is}
+use Rattle.board.specs.declared.Faulted.{Faulted}
+use Rattle.board.specs.Faulted.{faultedFrom, topOf}
+use Rattle.pass.specs.Ready.{Ready}
+use Rattle.pass.specs.Passing.{Passing}
+use Rattle.answer.specs.Posed.{Posed}
+use Rattle.pass.proofs.Pass.{in-table, here, faulted-is}
 
 -- ---- nodes in their table
 module _ (q : Asked) where

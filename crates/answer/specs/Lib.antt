@@ -1,4 +1,2 @@
--- What the contracts of the answer cite beside the paper's own definitions.
-pub mod Put
-pub mod Faulted
+-- What the contract of the answer cites beside the paper's own definitions.
 pub mod Posed

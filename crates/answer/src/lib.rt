@@ -1,8 +1,4 @@
 // The answer in the caller's buffer: D and the fault's currents, then the 24 numbers of each board in file order.
-mod board;
-mod boards;
-mod put;
-
 ghost use mathlib.Core.Path.{_≡_};
 ghost use Prim.Native.Nat.{_≤_};
 ghost use lib.ListN.{length};
@@ -13,23 +9,13 @@ ghost use Rattle.paper.specs.Amps.{amps};
 ghost use Rattle.paper.specs.Answer.{numbers};
 ghost use Rattle.answer.specs.Posed.{Posed};
 use amps::amps;
-use board::faulted;
+use board::fault_at;
 use board::top;
-use boards::boards;
-use feed::Node;
+use node::Node;
 use paper::Fault;
 use paper::Head;
-use paper::Seq;
+use pass::boards;
 use share::chain;
-
-// The fault at its board: the currents over D, D, and the board's own start of zero sequence, turn and odd phase.
-pub struct Faulted {
-    pub i: Seq,
-    pub d: i64,
-    pub start: u16,
-    pub turn: u16,
-    pub phase: u8,
-}
 
 // Of whatever question this is the head, the nodes, the fault and the faulted board's place: its amps, and its numbers from the front of the buffer.
 pub fn answer(head: Head, nodes: [Node; 256], fault: Fault, k: usize, out: &mut [i64]) -> u64
@@ -40,7 +26,7 @@ pub fn answer(head: Head, nodes: [Node; 256], fault: Fault, k: usize, out: &mut 
     let n = head.boards as usize;
     let i = k - 1;
     let at = nodes[i];
-    let f = faulted(at, fault);
+    let f = fault_at(at, fault);
     let on = chain(nodes, k);
     top(&mut out[0..13], f);
     boards(nodes, n, on, f, out);

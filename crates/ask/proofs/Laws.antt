@@ -1,33 +1,17 @@
--- For whoever calls `ask`: what `network::read` gives is what it requires, and what an outcome says of the paper's rows. Assumes nothing.
+-- For whoever calls `ask`: what an outcome says of the paper's rows. Assumes nothing.
 use mathlib.Core.List.{List}
 use mathlib.Core.Option.{Option, none, some}
 use mathlib.Core.Path.{_≡_, refl, sym, _∙_, ap}
-use Prim.Native.Nat.{ℕ, _≤_}
+use Prim.Native.Nat.{ℕ}
 use native.Mathlib.Omega.{arith}
-use lib.ListN.{take}
 use Rattle.paper.specs.declared.Refusal.{Refusal}
 use Rattle.paper.specs.File.{faultOf}
 use Rattle.paper.specs.Chain.{Boards, placeOf}
 use Rattle.paper.specs.Rows.{first}
-use Rattle.paper.specs.Refusal.{networkRefusal, faultRows}
-use Rattle.paper.proofs.Accepted.{accepted-network}
-use Rattle.feed.specs.Node.{noNode}
-use Rattle.network.specs.Network.{judged, networkOf}
-use Rattle.records.specs.Tables.{table, nodesFrom, nodesOf}
-use Rattle.network.proofs.Whole.{first-boards}
-use Rattle.network.specs.declared.Outcome.the-variants.{Accepted, Refused}
+use Rattle.paper.specs.Refusal.{faultRows}
+use Rattle.paper.specs.declared.Outcome.the-variants.{Accepted, Refused}
 use Rattle.ask.specs.Ask.{acceptedQuestion, asking, askOf}
 
--- ---- every network that is read can be asked (a refused one has no boards)
-pub of-network : (net : List ℕ) → let g = networkOf net in (g .head .boards ≤ 256) × (g .nodes ≡ table noNode (nodesOf (take (g .head .boards) (g .boards))))
-unfolding networkOf judged nodesFrom
-of-network net = go (networkRefusal net) refl
-  where
-    go : (o : Option Refusal) → networkRefusal net ≡ o → let g = judged o net in (g .head .boards ≤ 256) × (g .nodes ≡ table noNode (nodesOf (take (g .head .boards) (g .boards))))
-    go none e = (accepted-network net e .head-in .boards-range .1, ap (λ (bs : Boards). table noNode (nodesOf bs)) (sym (first-boards net refl refl)))
-    go (some r) e = (omega arith, refl)
-
--- ---- what an outcome says
 pub never : {A : Type 0} {r : Refusal} → Refused r ≡ Accepted → A
 never e = let z : _≡_ {A = ℕ} 0 1 = cc in absurd (omega arith)
 

@@ -1,8 +1,8 @@
 -- Each outcome of a fault's rules, from the facts in the shape in which the branches have them. Assumes nothing.
-use mathlib.Core.Bool.{Bool, true, false, not, _&&_, _||_, or-false}
+use mathlib.Core.Bool.{Bool, true, false, not, cond, _&&_}
 use mathlib.Core.List.{List, [], _∷_}
 use mathlib.Core.Option.{Option, none, some}
-use mathlib.Core.Path.{_≡_, refl, sym, _∙_, ap}
+use mathlib.Core.Path.{_≡_, refl, sym, _∙_, ap, subst}
 use Prim.Native.Nat.{ℕ, _+_, _*_, _-_, _≤_, _<_}
 use native.Mathlib.Omega.{arith}
 use lib.Dec.{ltb, eqb}
@@ -19,19 +19,15 @@ use Rattle.paper.specs.Chain.{Boards, placeOf, startsAt}
 use Rattle.paper.specs.Rows.{Row, row, first}
 use Rattle.paper.specs.Refusal.{theFault, phaseWrong, earthMissing, faultRows}
 use Rattle.paper.proofs.Chain.{starts-nowhere}
-use Rattle.feed.specs.declared.Node.{Node}
-use Rattle.feed.specs.Node.{noNode, nodeOf}
-use Rattle.records.specs.Tables.{table, nodesOf}
-use Rattle.records.proofs.Reading.{nodes-length, nodes-at}
-use Rattle.records.proofs.Tables.{table-at}
+use Rattle.node.specs.declared.Node.{Node}
+use Rattle.node.specs.Node.{noNode, nodeOf}
+use Rattle.node.specs.Tables.{table, nodesOf}
+use Rattle.node.proofs.Tables.{table-at, nodes-length, nodes-at}
 use Rattle.ask.specs.declared.Question.{Question}
-use Rattle.ask.specs.Ask.{earthGone, refusedQuestion, acceptedQuestion, asking, askOf}
+use Rattle.fault_rules.specs.Rules.{earthGone, broken}
+use Rattle.ask.specs.Ask.{refusedQuestion, acceptedQuestion, asking, askOf}
 
 -- ---- 18
-pub earth-asked : (f : Fault) (start : ℕ) → ((eqb (f .kind) 1 || eqb (f .kind) 3) && eqb start 0) ≡ earthGone f start
-unfolding earthGone oneOf
-earth-asked f start = ap (λ (b : Bool). (eqb (f .kind) 1 || b) && eqb start 0) (sym (or-false (eqb (f .kind) 3)))
-
 pub earth-is : (bs : Boards) (k : ℕ) (f : Fault) {start : ℕ} → start ≡ startsAt bs k → earthGone f start ≡ earthMissing bs k f
 unfolding earthGone earthMissing
 earth-is bs k f e = ap (λ (n : ℕ). oneOf (f .kind) (1 ∷ 3 ∷ []) && eqb n 0) e ∙ ap (λ (b : Bool). oneOf (f .kind) (1 ∷ 3 ∷ []) && b) (starts-nowhere bs k)
@@ -57,6 +53,33 @@ unfolding first
 first-is end = refl
 first-is (stop e) = rw e
 first-is (skip e rest) = rw e (first-is rest)
+
+-- ---- 15 to 18, by the number of the first that tests true (0: none), before the rows that follow
+abbrev rows : Bool → Bool → Bool → Bool → ℕ → List Row → List Row
+rows a b c d place rest = row 15 a 0 theFault ∷ row 16 b 0 theFault ∷ row 17 c 0 theFault ∷ row 18 d place theFault ∷ rest
+
+record Decided (number place : ℕ) (rest : List Row) (a b c d : Bool) : Type 0 where
+  pub at-18 : number ≡ 18 → First (rows a b c d place rest) (some (record { part = theFault; place = place; number = 18 }))
+  pub other : (number ≡ 18 → ⊥) → (number ≡ 0 → ⊥) → First (rows a b c d place rest) (some (record { part = theFault; place = 0; number = number }))
+  pub kept : number ≡ 0 → {o : Option Refusal} → First rest o → First (rows a b c d place rest) o
+
+module _ (number place : ℕ) (rest : List Row) where
+  told : {a b c d : Bool} (n : ℕ) → number ≡ n → (n ≡ 18 → ⊥) → (n ≡ 0 → ⊥) → First (rows a b c d place rest) (some (record { part = theFault; place = 0; number = n })) → Decided number place rest a b c d
+  told {a} {b} {c} {d} n e no-18 no-0 first =
+      record {
+        at-18 = λ h. absurd (no-18 (sym e ∙ h));
+        other = λ _ _. subst (λ (m : ℕ). First (rows a b c d place rest) (some (record { part = theFault; place = 0; number = m }))) (sym e) first;
+        kept = λ h. absurd (no-0 (sym e ∙ h));
+      }
+
+  decide : (a b c d : Bool) → number ≡ cond a 15 (cond b 16 (cond c 17 (cond d 18 0))) → Decided number place rest a b c d
+  decide true b c d e = told 15 e (λ h. omega arith) (λ h. omega arith) (stop refl)
+  decide false true c d e = told 16 e (λ h. omega arith) (λ h. omega arith) (skip refl (stop refl))
+  decide false false true d e = told 17 e (λ h. omega arith) (λ h. omega arith) (skip refl (skip refl (stop refl)))
+  decide false false false true e =
+      record { at-18 = λ _. skip refl (skip refl (skip refl (stop refl))); other = λ n _. absurd (n e); kept = λ h. absurd (omega arith) }
+  decide false false false false e =
+      record { at-18 = λ h. absurd (omega arith); other = λ _ n. absurd (n e); kept = λ _ last. skip refl (skip refl (skip refl (skip refl last))) }
 
 -- ---- 12 to 19
 abbrev because : ℕ → ℕ → ℕ → Question
@@ -113,50 +136,38 @@ module _ (bs : Boards) (s : List ℕ) (room : ℕ) where
     to-15 rest =
         skip (t12 (found .size)) (skip (t13 (found .size) (found .mark) (found .fault-is) (found .place-is)) (skip (ne-eqb K 0 (λ z. found .there (sym k-is ∙ z))) rest))
 
-    pub ask-15 : {q : Question} → 3 < f .kind → q ≡ because 15 0 20 → q ≡ askOf bs s room
-    unfolding faultRows
-    ask-15 h e = refuses (to-15 (stop (ap (λ (x : Fault). ltb 3 (x .kind)) (sym f-is) ∙ lt-ltb 3 (f .kind) h))) e
+    -- number is what the fault breaks of 15 to 18, by where its board's zero sequence starts
+    module _ {start number : ℕ} (start-is : start ≡ startsAt bs k) (number-is : number ≡ broken f start) where
+      earth : earthGone f start ≡ earthMissing bs K (faultOf s)
+      earth = earth-is bs k f start-is ∙ (λ i. earthMissing bs (sym k-is i) (f-is i))
 
-    module _ {w : Bool} (h15 : f .kind ≤ 3) (w-is : w ≡ phaseWrong f) where
-      t15 : ltb 3 (faultOf s .kind) ≡ false
-      t15 = ap (λ (x : Fault). ltb 3 (x .kind)) (sym f-is) ∙ le-ltb 3 (f .kind) h15
+      decided : Decided number K (row 19 (ltb room (13 + 24 * length bs)) 0 (part FaultBytes 0 0) ∷ []) (ltb 3 (faultOf s .kind)) (phaseWrong (faultOf s)) (partOver 1365 (faultOf s .zf)) (earthMissing bs K (faultOf s))
+      unfolding broken
+      decided =
+          decide number K _ _ _ _ _
+          (number-is ∙ (λ i. cond (ltb 3 (f-is i .kind)) 15 (cond (phaseWrong (f-is i)) 16 (cond (partOver 1365 (f-is i .zf)) 17 (cond (earth i) 18 0)))))
 
-      b16 : phaseWrong (faultOf s) ≡ w
-      b16 = ap phaseWrong (sym f-is) ∙ sym w-is
-
-      pub ask-16 : {q : Question} → w ≡ true → q ≡ because 16 0 20 → q ≡ askOf bs s room
+      pub ask-18 : {q : Question} → number ≡ 18 → q ≡ because 18 k 20 → q ≡ askOf bs s room
       unfolding faultRows
-      ask-16 h e = refuses (to-15 (skip t15 (stop (b16 ∙ h)))) e
+      ask-18 h e = refuses (to-15 (decided .at-18 h)) (e ∙ ap (λ (p : ℕ). because 18 p 20) (sym k-is))
 
-      module _ {v : Bool} (h16 : w ≡ false) (v-is : v ≡ partOver 1365 (f .zf)) where
-        b17 : partOver 1365 (faultOf s .zf) ≡ v
-        b17 = ap (λ (x : Fault). partOver 1365 (x .zf)) (sym f-is) ∙ sym v-is
+      pub ask-to-17 : {q : Question} → (number ≡ 18 → ⊥) → (number ≡ 0 → ⊥) → q ≡ because number 0 20 → q ≡ askOf bs s room
+      unfolding faultRows
+      ask-to-17 h18 h e = refuses (to-15 (decided .other h18 h)) e
 
-        pub ask-17 : {q : Question} → v ≡ true → q ≡ because 17 0 20 → q ≡ askOf bs s room
+      module _ {n : ℕ} (h18 : number ≡ 0) (n-is : length bs ≡ n) where
+        to-19 : {o : Option Refusal} → First (row 19 (ltb room (13 + 24 * length bs)) 0 (part FaultBytes 0 0) ∷ []) o → First (faultRows bs s room) o
         unfolding faultRows
-        ask-17 h e = refuses (to-15 (skip t15 (skip (b16 ∙ h16) (stop (b17 ∙ h))))) e
+        to-19 rest = to-15 (decided .kept h18 rest)
 
-        module _ {g : Bool} (h17 : v ≡ false) (g-is : g ≡ earthMissing bs k f) where
-          b18 : earthMissing bs K (faultOf s) ≡ g
-          b18 = (λ i. earthMissing bs (k-is i) (sym f-is i)) ∙ sym g-is
+        b19 : ltb room (13 + 24 * length bs) ≡ ltb room (13 + 24 * n)
+        b19 = ap (λ (x : ℕ). ltb room (13 + 24 * x)) n-is
 
-          pub ask-18 : {q : Question} → g ≡ true → q ≡ because 18 k 20 → q ≡ askOf bs s room
-          unfolding faultRows
-          ask-18 h e = refuses (to-15 (skip t15 (skip (b16 ∙ h16) (skip (b17 ∙ h17) (stop (b18 ∙ h)))))) (e ∙ ap (λ (p : ℕ). because 18 p 20) (sym k-is))
+        pub ask-19 : {q : Question} → room < 13 + 24 * n → q ≡ because 19 0 0 → q ≡ askOf bs s room
+        ask-19 h e = refuses (to-19 (stop (b19 ∙ lt-ltb room (13 + 24 * n) h))) e
 
-          module _ {n : ℕ} (h18 : g ≡ false) (n-is : length bs ≡ n) where
-            to-19 : {o : Option Refusal} → First (row 19 (ltb room (13 + 24 * length bs)) 0 (part FaultBytes 0 0) ∷ []) o → First (faultRows bs s room) o
-            unfolding faultRows
-            to-19 rest = to-15 (skip t15 (skip (b16 ∙ h16) (skip (b17 ∙ h17) (skip (b18 ∙ h18) rest))))
-
-            b19 : ltb room (13 + 24 * length bs) ≡ ltb room (13 + 24 * n)
-            b19 = ap (λ (x : ℕ). ltb room (13 + 24 * x)) n-is
-
-            pub ask-19 : {q : Question} → room < 13 + 24 * n → q ≡ because 19 0 0 → q ≡ askOf bs s room
-            ask-19 h e = refuses (to-19 (stop (b19 ∙ lt-ltb room (13 + 24 * n) h))) e
-
-            pub ask-0 : {q : Question} → 13 + 24 * n ≤ room → q ≡ acceptedQuestion f k → q ≡ askOf bs s room
-            unfolding askOf asking
-            ask-0 h e =
-                e ∙ (λ i. acceptedQuestion (f-is i) (sym k-is i))
-                ∙ ap (λ (o : Option Refusal). asking o (faultOf s) K) (sym (first-is (to-19 (skip (b19 ∙ le-ltb room (13 + 24 * n) h) end))))
+        pub ask-0 : {q : Question} → 13 + 24 * n ≤ room → q ≡ acceptedQuestion f k → q ≡ askOf bs s room
+        unfolding askOf asking
+        ask-0 h e =
+            e ∙ (λ i. acceptedQuestion (f-is i) (sym k-is i))
+            ∙ ap (λ (o : Option Refusal). asking o (faultOf s) K) (sym (first-is (to-19 (skip (b19 ∙ le-ltb room (13 + 24 * n) h) end))))

@@ -1,26 +1,19 @@
 -- What asking for a fault of an accepted network gives. Assumes nothing.
-use mathlib.Core.Bool.{Bool, _&&_}
-use mathlib.Core.List.{List, [], _∷_}
+use mathlib.Core.List.{List}
 use mathlib.Core.Option.{Option, none, some}
 use Prim.Native.Nat.{ℕ}
-use lib.Dec.{eqb}
 use lib.ListN.{replicate}
 use Rattle.paper.specs.declared.Fault.{Fault}
 use Rattle.paper.specs.declared.Refusal.{Refusal}
-use Rattle.paper.specs.Bytes.{oneOf}
 use Rattle.paper.specs.Kind.{ohms}
 use Rattle.paper.specs.File.{faultOf}
 use Rattle.paper.specs.Chain.{Boards, placeOf}
 use Rattle.paper.specs.Rows.{first}
 use Rattle.paper.specs.Refusal.{faultRows}
-use Rattle.network.specs.declared.Outcome.the-variants.{Accepted, Refused}
+use Rattle.paper.specs.declared.Outcome.the-variants.{Accepted, Refused}
 use Rattle.ask.specs.declared.Question.{Question}
 
--- 18 by where the board's zero sequence starts, 0 for nowhere: what the reader computes. That it is the paper's is a theorem (proofs/, `earth-is`)
-unfoldable pub earthGone : Fault → ℕ → Bool
-earthGone f start = oneOf (f .kind) (1 ∷ 3 ∷ []) && eqb start 0
-
--- ---- accepted, or refused by the first broken rule
+-- accepted, or refused by the first broken rule
 abbrev pub refusedQuestion : Refusal → Question
 refusedQuestion r = record { outcome = Refused r; fault = record { zf = ohms 0 0; label = replicate 12 0; kind = 0; phase = 0 }; k = 0 }
 

@@ -1,27 +1,23 @@
 // A fault's bytes, read against an accepted network: accepted with its board's place, or refused by the first rule of 12 to 19 that is broken.
-mod rules;
-
 ghost use mathlib.Core.Path.{_≡_};
 ghost use Prim.Native.Nat.{_≤_};
 ghost use lib.ListN.{take};
 ghost use Rattle.paper.specs.Bytes.{part};
 ghost use Rattle.paper.specs.declared.Lent.the-variants.{FaultBytes};
-ghost use Rattle.feed.specs.Node.{noNode};
-ghost use Rattle.records.specs.Tables.{table, nodesOf};
+ghost use Rattle.node.specs.Node.{noNode};
+ghost use Rattle.node.specs.Tables.{table, nodesOf};
 ghost use Rattle.ask.specs.Ask.{refusedQuestion, acceptedQuestion, askOf};
-use feed::Node;
+use fault_rules::broken;
+use field::u16_at;
 use file::bytes::fault_of;
-use file::bytes::u16_at;
-use network::Outcome;
+use node::Node;
 use paper::Board;
 use paper::Fault;
 use paper::Lent;
 use paper::Ohms;
+use paper::Outcome;
 use paper::Part;
 use paper::Refusal;
-use rules::earth_missing;
-use rules::phase_wrong;
-use rules::zf_over;
 use search::lookup;
 
 // The fault's mark.
@@ -92,20 +88,13 @@ pub fn ask(flt: &[u8], boards: [Board; 256], nodes: [Node; 256], n: usize, room:
     }
     let i = k - 1;
     let place = k as u16;
-    if 3 < fault.kind {
-        return refused(15, 0, 20);
-    }
-    if phase_wrong(fault) {
-        return refused(16, 0, 20);
-    }
     let node = nodes[i];
-    let too_large = zf_over(fault);
-    let no_earth = earth_missing(fault, node.start);
-    if too_large {
-        return refused(17, 0, 20);
-    }
-    if no_earth {
+    let number = broken(fault, node.start);
+    if number == 18 {
         return refused(18, place, 20);
+    }
+    if number != 0 {
+        return refused(number, 0, 20);
     }
     if room < 13 + 24 * n {
         return refused(19, 0, 0);

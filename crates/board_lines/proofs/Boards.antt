@@ -11,9 +11,10 @@ use Rattle.paper.specs.declared.Board.{Board}
 use Rattle.paper.specs.Bytes.{text}
 use Rattle.paper.specs.File.{headOf, boardOf, boardsOf}
 use Rattle.paper.specs.Chain.{noBoard}
-use Rattle.records.proofs.Records.{boards-count, board-at}
-use Rattle.lines.specs.Lines.{unspaced, threeLines, fours}
-use Rattle.lines.proofs.Unspaced.{front}
+use Rattle.node.proofs.Records.{boards-count, board-at}
+use Rattle.name.specs.Name.{unspaced}
+use Rattle.lines.specs.Lines.{threeLines, fours}
+use Rattle.name.proofs.Unspaced.{front}
 use Rattle.board_lines.specs.Boards.{boardLines, boardLying, boardsLying}
 
 -- a board's lines as the code writes them, its label cut

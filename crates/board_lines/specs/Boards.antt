@@ -3,7 +3,8 @@ use mathlib.Core.List.{List, [], _∷_, _++_}
 use Prim.Native.Nat.{ℕ}
 use lib.IntN.{ℤ}
 use lib.ListN.{drop}
-use Rattle.lines.specs.Lines.{unspaced, threeLines, fours}
+use Rattle.name.specs.Name.{unspaced}
+use Rattle.lines.specs.Lines.{threeLines, fours}
 use Rattle.paper.specs.Bytes.{text}
 use Rattle.paper.specs.Label.{Label}
 use Rattle.paper.specs.Chain.{Boards}

@@ -6,8 +6,8 @@ ghost use Rattle.decimal.specs.Wrote.{Room, Wrote};
 ghost use Rattle.paper.specs.File.{headOf, boardOf, boardsOf};
 ghost use Rattle.board_lines.specs.Boards.{boardLying, boardsLying};
 use file::bytes::board_of;
-use lines::name::letters;
 use lines::put_phases;
+use name::letters;
 
 // A board's numbers as they lie: three phases of voltages, three of currents.
 fn put_board(out: &mut [u8], at: usize, l: [u8; 12], zs: &[i64], from: usize) -> usize

@@ -2,4 +2,3 @@
 pub mod Writes
 pub mod Decimal
 mod Signed
-mod Row

@@ -3,6 +3,8 @@ ghost use mathlib.Core.Path.{_≡_};
 ghost use Rattle.paper.specs.Bounds.{AtMost};
 ghost use Rattle.paper.specs.Fault.{numOf, G, Δ, shortOf};
 use paper::Ohms;
+use product::mul;
+use sum::add;
 use turn::Num;
 
 // R + jX.
@@ -19,7 +21,7 @@ pub fn earthed(z0: Ohms, zf: Ohms) -> Num
     ensures { λ r. ⌜ ((Z1 Z2 : Num) → r ≡ G Z1 Z2 (numOf z0) (numOf zf)) ⌝ }
 {
     let f = num_of(zf);
-    num_of(z0).add(f.add(f).add(f))
+    add(num_of(z0), add(add(f, f), f))
 }
 
 // Δ = Z1·Z2 + Z1·G + Z2·G.
@@ -33,7 +35,7 @@ fn delta(z1: Ohms, z2: Ohms, z0: Ohms, zf: Ohms) -> Num
     let a = num_of(z1);
     let b = num_of(z2);
     let g = earthed(z0, zf);
-    a.mul(b).add(a.mul(g)).add(b.mul(g))
+    add(add(mul(a, b), mul(a, g)), mul(b, g))
 }
 
 // What the currents of a fault are divided by.
@@ -48,9 +50,9 @@ pub fn divisor(z1: Ohms, z2: Ohms, z0: Ohms, zf: Ohms, kind: u8) -> Num
     let b = num_of(z2);
     let f = num_of(zf);
     match kind {
-        0 => a.add(f),
-        1 => a.add(b).add(earthed(z0, zf)),
-        2 => a.add(b).add(f),
+        0 => add(a, f),
+        1 => add(add(a, b), earthed(z0, zf)),
+        2 => add(add(a, b), f),
         3 => delta(z1, z2, z0, zf),
         _ => Num::ONE,
     }

@@ -8,6 +8,11 @@ use divisor::earthed;
 use divisor::num_of;
 use paper::Ohms;
 use paper::Seq;
+use product::mul;
+use product::square;
+use sum::add;
+use sum::conj;
+use sum::neg;
 use turn::Num;
 
 // D, and I1, I2 and I0 over it.
@@ -35,11 +40,11 @@ fn above(z2: Ohms, z0: Ohms, zf: Ohms, kind: u8) -> Seq
     match kind {
         0 => seq(one, nil, nil),
         1 => seq(one, one, one),
-        2 => seq(one, one.neg(), nil),
+        2 => seq(one, neg(one), nil),
         3 => {
             let b = num_of(z2);
             let g = earthed(z0, zf);
-            seq(b.add(g), g.neg(), b.neg())
+            seq(add(b, g), neg(g), neg(b))
         },
         _ => seq(nil, nil, nil),
     }
@@ -54,12 +59,12 @@ pub fn short(z1: Ohms, z2: Ohms, z0: Ohms, zf: Ohms, kind: u8) -> Shorted
     ensures { λ r. ⌜ r ≡ shortedOf z1 z2 z0 zf kind ⌝ }
 {
     let n = divisor(z1, z2, z0, zf, kind);
-    let c = n.conj();
+    let c = conj(n);
     let a = above(z2, z0, zf, kind);
     let a1 = a.s1;
     let a2 = a.s2;
     let a0 = a.s0;
-    let i = seq(a1.mul(c), a2.mul(c), a0.mul(c));
-    let d = n.square();
+    let i = seq(mul(a1, c), mul(a2, c), mul(a0, c));
+    let d = square(n);
     Shorted { d, i }
 }

@@ -17,8 +17,8 @@ use Rattle.paper.specs.Refusal.{feederWrong}
 use Rattle.paper.proofs.Places.{same-label, look-here, place-most, place-stays, place-behind, Looked, looked, missing, found}
 use Rattle.paper.proofs.Chain.{ZeroIs, starts-nowhere}
 use Rattle.paper.proofs.Next.{feeder-next, Z1-next, Z2-next, turn-next, next-starts, next-goes-on, next-cut, next-blocked}
-use Rattle.feed.specs.declared.Node.{Node}
-use Rattle.feed.specs.Node.{nodeOf, nodeFrom, withZero}
+use Rattle.node.specs.declared.Node.{Node}
+use Rattle.node.specs.Node.{nodeOf, nodeFrom, withZero}
 
 -- what is found from place r on is 0 or at least r
 from-there : (r : ℕ) (l : Label) (bs : Boards) → 1 ≤ r → (lookFrom r l bs ≡ 0 → ⊥) → r ≤ lookFrom r l bs

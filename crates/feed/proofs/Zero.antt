@@ -8,11 +8,11 @@ use Rattle.paper.specs.declared.Ohms.{Ohms}
 use Rattle.paper.specs.declared.Board.{Board}
 use Rattle.paper.specs.Kind.{ohms, _+Ω_, thrice, Term, z0-alone, z0+3zn, Zero, starts, goes-on, none, kindOf, term, zeroTerm}
 use Rattle.paper.specs.Bounds.{AtMost}
-use Rattle.kind.specs.declared.ZeroWord.{ZeroWord}
-use Rattle.kind.specs.declared.ZeroWord.the-variants.{Starts, GoesOn, Blocked}
-use Rattle.kind.specs.Zero.{zeroWord}
-use Rattle.feed.specs.declared.Node.{Node}
-use Rattle.feed.specs.Node.{started, withZero, OwnSmall}
+use Rattle.zero.specs.declared.ZeroWord.{ZeroWord}
+use Rattle.zero.specs.declared.ZeroWord.the-variants.{Starts, GoesOn, Blocked}
+use Rattle.zero.specs.Zero.{zeroWord}
+use Rattle.node.specs.declared.Node.{Node}
+use Rattle.node.specs.Node.{started, withZero, OwnSmall}
 
 -- no kind has two words
 apart : {A : Type 0} → _≡_ {A = ℕ} 0 1 → A

@@ -2,14 +2,14 @@
 ghost use mathlib.Core.Path.{_≡_};
 ghost use Rattle.paper.specs.Kind.{_+Ω_, kindOf};
 ghost use Rattle.paper.specs.Bounds.{AtMost};
-ghost use Rattle.feed.specs.Node.{started, withZero, nodeFrom, nodeOver, noNode, OwnSmall, UpSmall};
-use super::Node;
-use kind::ZeroWord;
-use kind::impedance::over;
-use kind::zero_term;
-use kind::zero_word;
+ghost use Rattle.node.specs.Node.{started, withZero, nodeFrom, nodeOver, noNode, OwnSmall, UpSmall};
+use impedance::over;
+use node::Node;
 use paper::Board;
 use paper::Ohms;
+use zero::ZeroWord;
+use zero::zero_term;
+use zero::zero_word;
 
 // The node above record 1.
 pub fn no_node() -> Node

@@ -1,65 +1,14 @@
 // Records decoded, little-endian. The marks are left out: they are tested on the bytes.
-ghost use mathlib.Core.List.{_∷_};
 ghost use mathlib.Core.Path.{_≡_};
-ghost use Prim.Native.Nat.{_+_, _*_, _<_, _≤_};
+ghost use Prim.Native.Nat.{_≤_};
 ghost use lib.ListN.{length};
-ghost use Rattle.lemmas.proofs.Table.{tab};
-ghost use Rattle.paper.specs.Bytes.{u8At, u16At, within};
-ghost use Rattle.paper.specs.File.{ohmsAt, headOf, boardOf, faultOf};
+ghost use Rattle.paper.specs.File.{headOf, boardOf, faultOf};
+use field::label_at;
+use field::ohms_at;
+use field::u16_at;
 use paper::Board;
 use paper::Fault;
 use paper::Head;
-use paper::Ohms;
-
-pub fn pair(low: u8, high: u8) -> u16
-    ensures { λ r. ⌜ r ≡ low + 256 * high ⌝ }
-{
-    (low as u16) + 256 * (high as u16)
-}
-
-pub fn u16_at(s: &[u8], i: usize) -> u16
-    requires { ⌜ i + 1 < length (now s) ⌝ }
-    ensures { λ r. ⌜ r ≡ u16At (now (s .entry)) i ⌝ }
-{
-    pair(s[i], s[i + 1])
-}
-
-// From least to most, ends included.
-pub fn in_range(least: u16, most: u16, n: u16) -> bool
-    ensures { λ r. ⌜ r ≡ within least most n ⌝ }
-{
-    (least <= n) & (n <= most)
-}
-
-fn ohms_at(s: &[u8], i: usize) -> Ohms
-    requires { ⌜ i + 3 < length (now s) ⌝ }
-    ensures { λ r. ⌜ r ≡ ohmsAt (now (s .entry)) i ⌝ }
-{
-    let r = u16_at(s, i);
-    let x = u16_at(s, i + 2);
-    Ohms { r, x }
-}
-
-// The contract names the bytes as the code reads them, so that it needs no proof.
-fn label_at(s: &[u8], i: usize) -> [u8; 12]
-    requires { ⌜ i + 11 < length (now s) ⌝ }
-    ensures { λ r. ⌜ r ≡ u8At (now (s .entry)) i ∷ tab (λ n. u8At (now (s .entry)) (i + n)) 1 11 ⌝ }
-{
-    [
-        s[i],
-        s[i + 1],
-        s[i + 2],
-        s[i + 3],
-        s[i + 4],
-        s[i + 5],
-        s[i + 6],
-        s[i + 7],
-        s[i + 8],
-        s[i + 9],
-        s[i + 10],
-        s[i + 11],
-    ]
-}
 
 pub fn head_of(s: &[u8]) -> Head
     requires { ⌜ 8 ≤ length (now s) ⌝ }

@@ -9,9 +9,9 @@ use Rattle.paper.specs.declared.Board.{Board}
 use Rattle.paper.specs.Bytes.{sameBytes}
 use Rattle.paper.specs.Label.{spaces, formed}
 use Rattle.paper.specs.Refusal.{kindWrong, impedanceWrong}
-use Rattle.feed.specs.declared.Node.{Node}
+use Rattle.node.specs.declared.Node.{Node}
 use Rattle.inspect.specs.declared.Step.{Step}
-use Rattle.feed.specs.Node.{nodeFrom, nodeOver, noNode}
+use Rattle.node.specs.Node.{nodeFrom, nodeOver, noNode}
 use Rattle.inspect.specs.Rules.{fedWrong, numberOf, broken, earlier, stepOf}
 
 pub fed-first : (r : ℕ) (b : Board) (fed : ℕ) {w : Bool} → r ≡ 1 → w ≡ sameBytes (b .feeder) spaces → not w ≡ fedWrong r b fed

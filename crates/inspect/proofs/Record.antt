@@ -21,7 +21,7 @@ use Rattle.paper.specs.Refusal.{feederWrong, kindWrong, impedanceWrong, sumWron
 use Rattle.paper.proofs.Places.{place-most}
 use Rattle.lemmas.proofs.Bools.{same-by}
 use Rattle.paper.proofs.Fit.{Fit, fit}
-use Rattle.feed.specs.Node.{OwnSmall}
+use Rattle.node.specs.Node.{OwnSmall}
 use Rattle.inspect.specs.Rules.{fedWrong, numberOf, broken}
 use Rattle.feed.proofs.Behind.{own-place, used-place, place-earlier, place-not-earlier}
 

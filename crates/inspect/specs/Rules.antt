@@ -10,8 +10,8 @@ use Rattle.paper.specs.Label.{spaces, formed}
 use Rattle.paper.specs.File.{BD}
 use Rattle.paper.specs.Rows.{Test, test}
 use Rattle.paper.specs.Refusal.{kindWrong, impedanceWrong}
-use Rattle.feed.specs.declared.Node.{Node}
-use Rattle.feed.specs.Node.{nodeFrom, nodeOver, noNode}
+use Rattle.node.specs.declared.Node.{Node}
+use Rattle.node.specs.Node.{nodeFrom, nodeOver, noNode}
 use Rattle.inspect.specs.declared.Step.{Step}
 
 -- record 1: no twelve spaces; others: the first place is none, or not before r

@@ -1,7 +1,7 @@
 // One record inspected: the first of 5 to 11 that it breaks, or what it gets from its chain.
 pub mod rules;
 
-use feed::Node;
+use node::Node;
 
 // A record judged: the number of the first broken rule of 5 to 11, or 0 and its node.
 pub struct Step {

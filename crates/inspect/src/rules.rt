@@ -1,17 +1,17 @@
 // One record judged, by what stands in it and by what its feeder has.
 ghost use mathlib.Core.Path.{_≡_};
 ghost use Prim.Native.Nat.{_≤_, _<_};
-ghost use Rattle.feed.specs.Node.{UpSmall};
+ghost use Rattle.node.specs.Node.{UpSmall};
 ghost use Rattle.inspect.specs.Rules.{fedWrong, broken, earlier, stepOf};
 use super::Step;
-use feed::Node;
 use feed::sums::no_node;
 use feed::sums::node_from;
 use feed::sums::node_over;
+use formed::formed;
 use kind::impedance_wrong;
 use kind::kind_wrong;
-use label::formed;
 use label::is_spaces;
+use node::Node;
 use paper::Board;
 
 // A board's mark.

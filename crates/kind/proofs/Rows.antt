@@ -8,24 +8,13 @@ use lib.Dec.{T, ltb, eqb}
 use lib.ListN.{getD, List·getD-eq-default}
 use mir.Syntax.{w8}
 use mir.Val.{Fits}
-use borrow.Author.Tests.{le-ltb, ltb-true, ltb-false}
-use Rattle.lemmas.proofs.Table.{Each, each-at, every, every-at}
+use borrow.Author.Tests.{le-ltb}
+use Rattle.lemmas.proofs.Table.{each-at, every, every-at}
 use Rattle.paper.specs.declared.Board.{Board}
 use Rattle.paper.specs.Bytes.{oneOf}
-use Rattle.paper.specs.Kind.{isZero, sameOhms, Kind, none, kinds, known, kindOf, standsAt, holds, allHold}
+use Rattle.paper.specs.Kind.{isZero, sameOhms, kinds, known, kindOf, standsAt, holds, allHold}
 use Rattle.paper.specs.Refusal.{kindWrong}
-
--- ---- six rows, and the empty one of every number that is no kind
-unknown : (k : ℕ) → 6 ≤ k → kindOf k ≡ kindOf 6
-unfolding kindOf kinds
-unknown k h = List·getD-eq-default kinds (kindOf 6) {n = k} h
-
-each-row : (P : ℕ → Kind → Type 0) → Each (λ k. P k (kindOf k)) 0 6 → ((k : ℕ) → 6 ≤ k → P k (kindOf 6)) → (k : ℕ) → P k (kindOf k)
-each-row P rows rest k = go (ltb k 6) refl
-  where
-    go : (t : Bool) → ltb k 6 ≡ t → P k (kindOf k)
-    go true e = each-at (λ k. P k (kindOf k)) 6 k (ltb-true k 6 e) rows
-    go false e = let h = ltb-false k 6 e in rw (unknown k h) (rest k h)
+use Rattle.paper.proofs.KindTable.{unknown, each-row}
 
 -- ---- "Clock"
 beq→ : (a b : Bool) → T (Bool·beq a b) → a ≡ b
@@ -107,14 +96,3 @@ pub rules-none : (b : Board) → (b .kind ≡ 0 → ⊥) → (b .kind ≡ 1 → 
     → true ≡ allHold (kindOf (b .kind) .rules) b
 unfolding kindOf kinds allHold
 rules-none b k0 k1 k2 k3 k4 k5 = rw (unknown (b .kind) (omega arith))
-
--- ---- "Zero sequence": none, where no earlier arm of the match took the kind
-abbrev Others : ℕ → Type 0
-Others k = (((Unit {0} × (k ≡ 0 → ⊥)) × (k ≡ 2 → ⊥)) × (k ≡ 3 → ⊥)) × (k ≡ 4 → ⊥)
-
-pub blocked : {k : ℕ} → Others k → kindOf k .zero-seq ≡ none
-unfolding kindOf kinds
-blocked {k} =
-    each-row (λ k row. Others k → row .zero-seq ≡ none)
-    (λ n. absurd (n .0 .0 .0 .1 refl), (λ n. refl, (λ n. absurd (n .0 .0 .1 refl), (λ n. absurd (n .0 .1 refl), (λ n. absurd (n .1 refl), (λ n. refl, tt))))))
-    (λ k h n. refl) k

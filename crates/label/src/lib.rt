@@ -1,13 +1,11 @@
-// Labels. Whoever compares two calls `same_label`.
+// Labels compared. Whoever compares two calls `same_label`.
 ghost use mathlib.Core.Path.{_≡_};
 ghost use Rattle.lemmas.proofs.Table.{tab};
-ghost use Rattle.paper.specs.Bytes.{u8At, sameBytes, within};
-ghost use Rattle.paper.specs.Label.{spaces, formed, sameLabel};
+ghost use Rattle.paper.specs.Bytes.{u8At, sameBytes};
+ghost use Rattle.paper.specs.Label.{spaces, sameLabel};
 ghost use Rattle.label.specs.Words.{littleEndian};
-use file::bytes::in_range;
-use file::bytes::pair;
-
-const SPACE: u8 = 0x20;
+use field::SPACE;
+use field::pair;
 
 // One load each once compiled, this and the next.
 fn first_eight(l: [u8; 12]) -> u64
@@ -39,25 +37,4 @@ pub fn is_spaces(l: [u8; 12]) -> bool
 {
     let spaces = [SPACE; 12];
     same_label(l, spaces)
-}
-
-fn visible(x: u8) -> bool
-    ensures { λ r. ⌜ r ≡ within 0x21 0x7E x ⌝ }
-{
-    in_range(0x21, 0x7E, x as u16)
-}
-
-// From the back, so that one pass is enough: from i on stand spaces only (`blank`), or what may follow a letter (`rest`).
-pub fn formed(l: [u8; 12]) -> bool
-    ensures { λ r. ⌜ r ≡ formed l ⌝ }
-{
-    let mut blank = true;
-    let mut rest = true;
-    let mut i: usize = 12;
-    while 1 < i {
-        i -= 1;
-        blank = (l[i] == SPACE) & blank;
-        rest = (visible(l[i]) & rest) | blank;
-    }
-    visible(l[0]) & rest
 }

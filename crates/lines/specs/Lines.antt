@@ -1,17 +1,12 @@
 -- 01, 'Figures worked through', its end: the lines that the program prints, byte for byte. Assumes nothing.
-use mathlib.Core.Bool.{cond}
 use mathlib.Core.List.{List, [], _∷_, _++_}
 use Prim.Native.Nat.{ℕ, suc}
 use lib.IntN.{ℤ, pos}
 use lib.ListN.{take, drop}
 use Rattle.decimal.specs.Decimal.{row}
 use Rattle.paper.specs.Bytes.{text}
-use Rattle.paper.specs.Label.{Label, blank}
-
--- "Labels are printed without their closing spaces"
-unfoldable pub unspaced : Label → List ℕ
-unspaced [] = []
-unspaced (x ∷ xs) = let rest = unspaced xs in cond (blank (x ∷ xs)) [] (x ∷ rest)
+use Rattle.paper.specs.Label.{Label}
+use Rattle.name.specs.Name.{unspaced}
 
 -- what stands in front, then numbers
 unfoldable pub line : List ℕ → List ℤ → List ℕ

@@ -1,16 +1,14 @@
 // The lines of an answer that need no network, written into a lent buffer: a refusal's, the fault's, those of three phases.
-pub mod name;
-
 ghost use mathlib.Core.List.{_∷_, [], _++_};
 ghost use Prim.Native.Nat.{_+_, _≤_};
 ghost use lib.ListN.{length, take, drop};
 ghost use Rattle.decimal.specs.Wrote.{Room, Wrote};
 ghost use Rattle.lines.specs.Lines.{line, faultLine, refusedText, threeLines, fours};
 use decimal::put_bytes;
-use decimal::put_field;
-use decimal::put_pair;
-use decimal::put_row;
 use name::put_label;
+use row::put_field;
+use row::put_pair;
+use row::put_row;
 
 pub fn put_refusal(out: &mut [u8], at: usize, number: u8, place: u16) -> usize
     requires { ⌜ Room at (refusedText number place) (now out) ⌝ }

@@ -14,15 +14,15 @@ use Rattle.paper.specs.Bytes.{part}
 use Rattle.paper.specs.Rows.{first, _then_}
 use Rattle.paper.specs.File.{headOf, recordsOf, boardsOf}
 use Rattle.paper.specs.Refusal.{headRows, recordsRefusal, networkRefusal}
-use Rattle.feed.specs.declared.Node.{Node}
-use Rattle.feed.specs.Node.{noNode}
+use Rattle.node.specs.declared.Node.{Node}
+use Rattle.node.specs.Node.{noNode}
 use Rattle.records.specs.declared.Judged.{Judged}
 use Rattle.network.specs.declared.Network.{Network}
-use Rattle.network.specs.declared.Outcome.the-variants.{Accepted, Refused}
+use Rattle.paper.specs.declared.Outcome.the-variants.{Accepted, Refused}
 use Rattle.network.specs.Network.{headNumber, refusedNetwork, acceptedNetwork, judged, networkOf}
-use Rattle.records.specs.Tables.{table, emptyBoard}
+use Rattle.node.specs.Tables.{table, emptyBoard}
 use Rattle.records.specs.Judgement.{Judgement}
-use Rattle.records.proofs.Records.{count, boards-count}
+use Rattle.node.proofs.Records.{count, boards-count}
 use Rattle.network.proofs.Head.{too-short, head-broken, head-kept}
 
 module _ (s : List ℕ) where

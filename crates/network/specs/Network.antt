@@ -7,9 +7,9 @@ use Rattle.paper.specs.declared.Refusal.{Refusal}
 use Rattle.paper.specs.Rows.{Row, row}
 use Rattle.paper.specs.File.{headOf, boardsOf}
 use Rattle.paper.specs.Refusal.{headRows, networkRefusal}
-use Rattle.feed.specs.Node.{noNode}
-use Rattle.records.specs.Tables.{emptyBoard, table, nodesOf}
-use Rattle.network.specs.declared.Outcome.the-variants.{Accepted, Refused}
+use Rattle.node.specs.Node.{noNode}
+use Rattle.node.specs.Tables.{emptyBoard, table, nodesOf}
+use Rattle.paper.specs.declared.Outcome.the-variants.{Accepted, Refused}
 use Rattle.network.specs.declared.Network.{Network}
 
 -- ---- the head

@@ -3,28 +3,24 @@ ghost use mathlib.Core.Path.{_≡_};
 ghost use Rattle.paper.specs.Bytes.{part};
 ghost use Rattle.paper.specs.declared.Lent.the-variants.{NetworkBytes};
 ghost use Rattle.network.specs.Network.{refusedNetwork, networkOf, headNumber};
-use feed::Node;
 use feed::sums::no_node;
+use field::u16_at;
 use file::bytes::head_of;
-use file::bytes::u16_at;
 use file::head::head_wrong;
+use node::Node;
 use paper::Board;
 use paper::Head;
 use paper::Lent;
+use paper::Outcome;
 use paper::Part;
 use paper::Refusal;
+use places::lookup_all;
 use records::judge;
-use records::table::decode;
-use records::table::empty_board;
-use search::lookup_all;
+use table::decode;
+use table::empty_board;
 
 // The head's mark.
 const HD: u16 = 0x4448;
-
-pub enum Outcome {
-    Accepted,
-    Refused(Refusal),
-}
 
 // The head and the tables are those of the network where it is accepted, and empty where it is refused.
 pub struct Network {

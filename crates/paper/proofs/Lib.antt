@@ -16,24 +16,18 @@ pub mod Before
 pub mod Next
 pub mod Shared
 pub mod Earth
+-- the kind table, row by row
+pub mod KindTable
 -- what the tests of the refusal table give
 pub mod Rows
 pub mod Fit
 pub mod Sound
 pub mod Accepted
--- the numbers R + jX, bare and with a bound
+-- the numbers R + jX, bare
 pub mod Flat
-pub mod Plane
 -- the fault table: its rows, D as a natural number, the divisor
 pub mod Row
 pub mod Square
 pub mod Divisor
--- the amps: exactly one n
-pub mod Greatest
-pub mod Amps
--- that every number fits
-pub mod Sizes
-pub mod Needs
-pub mod Fits
--- all of it, of an accepted question
+-- all that acceptance gives of a question
 pub mod Given

@@ -61,6 +61,12 @@ pub struct Refusal {
     pub number: u8,
 }
 
+// Accepted, or refused by that rule.
+pub enum Outcome {
+    Accepted,
+    Refused(Refusal),
+}
+
 // What a call returns.
 pub struct Answer {
     pub amps: u64,

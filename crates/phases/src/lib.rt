@@ -4,7 +4,9 @@ ghost use Prim.Native.Nat.{_≤_};
 ghost use Rattle.paper.specs.Bounds.{Plane, EachSeq, mostW};
 ghost use Rattle.paper.specs.Phase.{four, shows, phase, phases};
 use paper::Seq;
+use sum::add;
 use turn::Num;
+use turns::turn;
 
 // What the i-th phase from the odd one shows. A turn is at most 256 clocks of 11.
 pub fn shows(p: usize, sj: usize, sk: usize, x: Seq, i: usize) -> Num
@@ -15,9 +17,9 @@ pub fn shows(p: usize, sj: usize, sk: usize, x: Seq, i: usize) -> Num
     let s1 = x.s1;
     let s2 = x.s2;
     let s0 = x.s0;
-    let u = s1.turn(8 * i + 11 * sj + sk);
-    let v = s2.turn(4 * i + sj + 11 * sk);
-    s0.add(u).add(v).turn(8 * p)
+    let u = turn(s1, 8 * i + 11 * sj + sk);
+    let v = turn(s2, 4 * i + sj + 11 * sk);
+    turn(add(add(s0, u), v), 8 * p)
 }
 
 fn four(n: Num) -> [i64; 4]

@@ -1,9 +1,9 @@
 // Reads networks off standard input, each behind its length in two bytes, and prints a line for each:
 // ACCEPTED and N, or REFUSED, the number, the place, and where the bytes that are shown start and how many they are.
-use file::bytes::u16_at;
+use field::u16_at;
 use libc::STDIN_FILENO;
 use libc::STDOUT_FILENO;
-use network::Outcome;
+use paper::Outcome;
 
 fn say(text: &[u8]) {
     io::write_all(STDOUT_FILENO, text);

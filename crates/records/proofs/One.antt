@@ -7,9 +7,9 @@ use native.Mathlib.Omega.{arith}
 use Rattle.paper.specs.declared.Refusal.{Refusal}
 use Rattle.paper.specs.File.{recordsOf, boardsOf}
 use Rattle.paper.specs.Refusal.{recordsRefusal}
-use Rattle.feed.specs.Node.{noNode}
+use Rattle.node.specs.Node.{noNode}
 use Rattle.records.specs.declared.Judged.{Judged}
-use Rattle.records.specs.Tables.{table, nodesFrom}
+use Rattle.node.specs.Tables.{table, nodesFrom}
 use Rattle.records.specs.Judgement.{Judgement}
 
 -- what a refusal says, 0 for none

@@ -25,15 +25,15 @@ use Rattle.paper.proofs.Chain.{Z1-none, Z2-none, turn-none, ZeroIs, is-none}
 use Rattle.paper.proofs.Before.{feeder-before, start-before, turn-before, Z1-before, Z2-before, Z0-before}
 use Rattle.paper.proofs.Fit.{Fit, fit}
 use Rattle.paper.proofs.Sound.{SoundAt, Sound, sound-none, sound-next, Tested, turn-small}
-use Rattle.feed.specs.declared.Node.{Node}
+use Rattle.node.specs.declared.Node.{Node}
 use Rattle.inspect.specs.declared.Step.{Step}
-use Rattle.feed.specs.Node.{nodeOf, nodeFrom, nodeOver, noNode, UpSmall}
+use Rattle.node.specs.Node.{nodeOf, nodeFrom, nodeOver, noNode, UpSmall}
 use Rattle.inspect.specs.Rules.{broken, earlier, stepOf}
-use Rattle.records.specs.Tables.{table, nodesFrom}
+use Rattle.node.specs.Tables.{table, nodesFrom}
 use Rattle.feed.proofs.Behind.{place-earlier, place-not-earlier, node-next}
 use Rattle.inspect.proofs.Record.{own-test, fed-test, record-broken, record-over, record-passes, Kept, all-kept}
-use Rattle.records.proofs.Tables.{table-at, table-put}
-use Rattle.records.proofs.Records.{count, bytesOf, boards-count, before-next, all-boards, Passed, passed-none, passed-next, passed-refused, passed-all}
+use Rattle.node.proofs.Tables.{table-at, table-put, nodes-length, nodes-at, nodes-next}
+use Rattle.node.proofs.Records.{count, bytesOf, boards-count, before-next, all-boards, Passed, passed-none, passed-next, passed-refused, passed-all}
 
 -- ---- nodes
 pub node-none : (bs : Boards) → nodeOf bs 0 ≡ noNode
@@ -41,22 +41,6 @@ unfolding nodeOf feederOf lookFrom
 node-none bs =
     let z = is-none bs in
     λ i. record { z1 = Z1-none bs i; z2 = Z2-none bs i; z0 = z .zero-sum i; feeder = 0; start = z .zero-start i; turn = turn-none bs i }
-
-pub nodes-length : (bs : Boards) (r n : ℕ) → length (nodesFrom bs r n) ≡ n
-unfolding nodesFrom
-nodes-length bs r zero = refl
-nodes-length bs r (suc n) = ap suc (nodes-length bs (suc r) n)
-
-pub nodes-at : (d : Node) (bs : Boards) (r n i : ℕ) → i < n → getD (nodesFrom bs r n) i d ≡ nodeOf bs (r + i)
-unfolding nodesFrom
-nodes-at d bs r zero i h = absurd (omega arith)
-nodes-at d bs r (suc n) zero h = let e : r ≡ r + 0 = omega arith in ap (nodeOf bs) e
-nodes-at d bs r (suc n) (suc i) h = let e : suc r + i ≡ r + suc i = omega arith in nodes-at d bs (suc r) n i (omega arith) ∙ ap (nodeOf bs) e
-
-pub nodes-next : (bs : Boards) (r n : ℕ) → nodesFrom bs r (suc n) ≡ nodesFrom bs r n ++ (nodeOf bs (r + n) ∷ [])
-unfolding nodesFrom
-nodes-next bs r zero = let e : r ≡ r + 0 = omega arith in ap (λ (m : ℕ). nodeOf bs m ∷ []) e
-nodes-next bs r (suc n) = let e : suc r + n ≡ r + suc n = omega arith in ap (λ (l : List Node). nodeOf bs r ∷ l) (nodes-next bs (suc r) n ∙ ap (λ (m : ℕ). nodesFrom bs (suc r) n ++ (nodeOf bs m ∷ [])) e)
 
 -- a board's node looks at no later board
 pub node-before : (before rest : Boards) (r : ℕ) → r ≤ length before → nodeOf (before ++ rest) r ≡ nodeOf before r

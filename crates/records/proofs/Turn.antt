@@ -12,17 +12,17 @@ use Rattle.paper.specs.Bytes.{u16At}
 use Rattle.paper.specs.File.{markOf, boardOf, boardsOf}
 use Rattle.paper.specs.Chain.{noBoard, placeOf}
 use Rattle.paper.specs.Refusal.{theRecord}
-use Rattle.search.specs.Places.{placesOf}
-use Rattle.search.proofs.Laws.{own-at, fed-at}
-use Rattle.feed.specs.declared.Node.{Node}
+use Rattle.places.specs.Places.{placesOf}
+use Rattle.places.proofs.Laws.{own-at, fed-at}
+use Rattle.node.specs.declared.Node.{Node}
 use Rattle.inspect.specs.declared.Step.{Step}
 use Rattle.records.specs.declared.Judged.{Judged}
-use Rattle.feed.specs.Node.{nodeOf, noNode, UpSmall}
+use Rattle.node.specs.Node.{nodeOf, noNode, UpSmall}
 use Rattle.inspect.specs.Rules.{earlier, stepOf}
-use Rattle.records.specs.Tables.{table, emptyBoard, nodesFrom}
+use Rattle.node.specs.Tables.{table, emptyBoard, nodesFrom}
 use Rattle.records.specs.Judgement.{Judgement}
-use Rattle.records.proofs.Records.{count, bytesOf, boards-count, board-at, mark-at}
-use Rattle.records.proofs.Tables.{table-at}
+use Rattle.node.proofs.Records.{count, bytesOf, boards-count, board-at, mark-at}
+use Rattle.node.proofs.Tables.{table-at}
 use Rattle.records.proofs.Reading.{Read, read-all, before, feeder, up-is, up-small, step-refused, step-passes}
 
 module _ (net : List ℕ) (i : ℕ) (nodes : List Node) (h : i < count net) (read : Read net i nodes) (few : count net ≤ 256) where

@@ -5,9 +5,9 @@ use mathlib.Core.Option.{none, some}
 use Prim.Native.Nat.{ℕ, suc, _-_, _≤_}
 use Rattle.paper.specs.File.{recordsOf, boardsOf}
 use Rattle.paper.specs.Refusal.{recordsRefusal, theRecord}
-use Rattle.feed.specs.Node.{noNode}
+use Rattle.node.specs.Node.{noNode}
 use Rattle.records.specs.declared.Judged.{Judged}
-use Rattle.records.specs.Tables.{table, nodesFrom, nodesOf}
+use Rattle.node.specs.Tables.{table, nodesFrom, nodesOf}
 
 pub record Judgement (net : List ℕ) (r : Judged) : Type 0 where
   pub all-kept : r .number ≡ 0 → (recordsRefusal [] (recordsOf net) ≡ none) × (r .nodes ≡ table noNode (nodesOf (boardsOf net)))

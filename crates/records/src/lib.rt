@@ -1,33 +1,25 @@
-// The records, decoded, and judged in file order: "5 to 11 are all tried on one record before the next."
-pub mod table;
-
+// The records, judged in file order: "5 to 11 are all tried on one record before the next."
 ghost use mathlib.Core.Path.{_≡_};
 ghost use Prim.Native.Nat.{_+_, _*_, _≤_};
 ghost use lib.ListN.{length};
 ghost use Rattle.paper.specs.File.{headOf, boardsOf};
-ghost use Rattle.search.specs.Places.{placesOf};
-ghost use Rattle.records.specs.Tables.{table, emptyBoard};
+ghost use Rattle.places.specs.Places.{placesOf};
+ghost use Rattle.node.specs.Tables.{table, emptyBoard};
 ghost use Rattle.records.specs.Judgement.{Judgement};
-use feed::Node;
 use feed::sums::no_node;
-use file::bytes::u16_at;
+use field::u16_at;
 use inspect::rules::earlier;
 use inspect::rules::step;
+use node::Node;
+use node::index;
 use paper::Board;
-use search::Places;
+use places::Places;
 
 // The records judged: the number and the place of the first that is refused, or 0, 0 and all nodes.
 pub struct Judged {
     pub nodes: [Node; 256],
     pub place: u16,
     pub number: u8,
-}
-
-// A place as an index: a cast in a call of its own, so that the loop's proof carries none.
-fn wide(x: u16) -> usize
-    ensures { λ r. ⌜ r ≡ x ⌝ }
-{
-    x as usize
 }
 
 pub fn judge(net: &[u8], n: usize, boards: [Board; 256], places: Places) -> Judged
@@ -43,8 +35,8 @@ pub fn judge(net: &[u8], n: usize, boards: [Board; 256], places: Places) -> Judg
         let r = i + 1;
         let mark = u16_at(net, 8 + 44 * i);
         let b = boards[i];
-        let mine = wide(own[i]);
-        let theirs = wide(fed[i]);
+        let mine = index(own[i]);
+        let theirs = index(fed[i]);
         let feeder = earlier(r, theirs);
         let mut up = none;
         if feeder != 0 {

@@ -1,8 +1,4 @@
--- what callers cite of `placesOf`
-pub mod Laws
--- what the walks share: a loop over the boards, the arrays that it fills, the table whose front is lent, a call of `find`
-mod Rest
-mod Filled
-mod Numbers
-mod Front
-mod Calls
+-- what the walks share, those of `places` too: a loop over the boards, the table whose front is lent, a call of `find`
+pub mod Rest
+pub mod Front
+pub mod Calls

@@ -12,8 +12,8 @@ use Rattle.paper.specs.Bytes.{oneOf}
 use Rattle.paper.specs.Chain.{Boards, feederOf, chain, climb as paper-climb}
 use Rattle.paper.proofs.Lists.{On, on-here, on-there}
 use Rattle.paper.proofs.Chain.{feeder-earlier, chain-between}
-use Rattle.feed.specs.declared.Node.{Node}
-use Rattle.feed.specs.Node.{nodeOf, noNode}
+use Rattle.node.specs.declared.Node.{Node}
+use Rattle.node.specs.Node.{nodeOf, noNode}
 use Rattle.share.specs.Share.{FromEarlier, climb, marked, marksOf}
 
 -- ---- the loop: what is still to be marked, marked, is the whole

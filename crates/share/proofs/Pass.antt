@@ -10,8 +10,8 @@ use Rattle.paper.specs.Kind.{ohms}
 use Rattle.paper.specs.Chain.{Boards, feederOf, chain, startsAt, Z1, Z2, Z0, shared1, shared2, shared0}
 use Rattle.paper.proofs.Shared.{shared1-none, shared1-on, shared1-off, shared2-none, shared2-on, shared2-off, shared0-none, shared-apart}
 use Rattle.paper.proofs.Earth.{shared0-own, shared0-feeders}
-use Rattle.feed.specs.declared.Node.{Node}
-use Rattle.feed.specs.Node.{nodeOf}
+use Rattle.node.specs.declared.Node.{Node}
+use Rattle.node.specs.Node.{nodeOf}
 use Rattle.share.specs.declared.Shared.{Shared}
 use Rattle.share.specs.Share.{noShare, sharedOf, shareFrom}
 

@@ -9,8 +9,8 @@ use Rattle.paper.specs.Kind.{ohms}
 use Rattle.paper.specs.Chain.{Boards, shared1, shared2, shared0}
 use Rattle.paper.specs.Fault.{seq}
 use Rattle.paper.specs.Phase.{onlyIf}
-use Rattle.feed.specs.declared.Node.{Node}
-use Rattle.feed.specs.Node.{noNode}
+use Rattle.node.specs.declared.Node.{Node}
+use Rattle.node.specs.Node.{noNode}
 use Rattle.share.specs.declared.Shared.{Shared}
 
 -- ---- the chain

@@ -4,7 +4,7 @@ ghost use mathlib.Core.Path.{_≡_};
 ghost use Prim.Native.Nat.{_≤_};
 ghost use Rattle.paper.specs.Phase.{onlyIf};
 ghost use Rattle.share.specs.Share.{FromEarlier, marksOf, noShare, shareFrom, carriedOf};
-use feed::Node;
+use node::Node;
 use paper::Ohms;
 use paper::Seq;
 use turn::Num;

@@ -18,7 +18,7 @@ use Rattle.paper.specs.Phase.{asked}
 use Rattle.paper.specs.Answer.{accepted, refused, answer, verdict}
 use Rattle.paper.proofs.Rows.{clear}
 use Rattle.paper.proofs.Accepted.{accepted-network, accepted-fault}
-use Rattle.records.proofs.Records.{recs-length}
+use Rattle.node.proofs.Records.{recs-length}
 use Rattle.show.specs.Shown.{Within}
 
 -- ---- what a refusal shows, of rows tried in their order

@@ -19,7 +19,7 @@ use Rattle.paper.specs.Answer.{numbers, accepted, refused}
 use Rattle.paper.proofs.Accepted.{boards-length}
 use Rattle.paper.proofs.Given.{question}
 use Rattle.network.specs.declared.Network.{Network}
-use Rattle.network.specs.declared.Outcome.the-variants.{Accepted, Refused}
+use Rattle.paper.specs.declared.Outcome.the-variants.{Accepted, Refused}
 use Rattle.network.specs.Network.{acceptedNetwork, judged, networkOf}
 use Rattle.network.proofs.Whole.{first-boards}
 use Rattle.ask.specs.declared.Question.{Question}

@@ -15,7 +15,7 @@ use Rattle.paper.specs.Refusal.{answerSize, refusal}
 use Rattle.paper.specs.Phase.{Asked, asked, phases, faultCurrents}
 use Rattle.paper.specs.Answer.{flat, numbers, after, written, accepted, refused, answer, verdict}
 use Rattle.paper.proofs.Given.{question}
-use Rattle.answer.proofs.Pass.{boards-length}
+use Rattle.pass.proofs.Pass.{boards-length}
 
 -- ---- "two results that its contract allows are proved equal": r and out are what a call may return and leave
 abbrev pub Allowed : List ℕ → List ℕ → List ℤ → Answer → List ℤ → Type 0

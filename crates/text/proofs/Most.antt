@@ -17,8 +17,9 @@ use Rattle.paper.specs.Amps.{amps}
 use Rattle.paper.proofs.Accepted.{accepted-network, accepted-fault}
 use Rattle.decimal.specs.Decimal.{signed, row}
 use Rattle.decimal.proofs.Decimal.{decimal-most}
-use Rattle.lines.specs.Lines.{unspaced, line, phaseLines, threeLines, faultLine, refusedText}
-use Rattle.lines.proofs.Unspaced.{unspaced-most}
+use Rattle.name.specs.Name.{unspaced}
+use Rattle.lines.specs.Lines.{line, phaseLines, threeLines, faultLine, refusedText}
+use Rattle.name.proofs.Unspaced.{unspaced-most}
 use Rattle.board_lines.specs.Boards.{boardLines}
 use Rattle.text.specs.Text.{currentLines, topLines, boardsLines, acceptedText, textOf, room, printed, textMost}
 

@@ -9,4 +9,4 @@ pub mod Conj
 pub mod Cancel
 -- bounds
 pub mod Within
-mod Operands
+pub mod Operands

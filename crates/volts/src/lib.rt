@@ -9,6 +9,9 @@ use divisor::num_of;
 use fault::seq;
 use paper::Ohms;
 use paper::Seq;
+use product::mul;
+use sum::neg;
+use sum::sub;
 use turn::Num;
 
 // An impedance times a sequence current.
@@ -17,7 +20,7 @@ fn drop(z: Ohms, i: Num) -> Num
     requires { ⌜ Plane mostI i ⌝ }
     ensures { λ r. ⌜ r ≡ numOf z *N i ⌝ }
 {
-    num_of(z).mul(i)
+    mul(num_of(z), i)
 }
 
 // The referred voltages, over D, of a board that shares za, zb and zc with the faulted one.
@@ -32,8 +35,8 @@ pub fn voltage(d: i64, i: Seq, za: Ohms, zb: Ohms, zc: Ohms) -> Seq
     let i1 = i.s1;
     let i2 = i.s2;
     let i0 = i.s0;
-    let w1 = Num::whole(d).sub(drop(za, i1));
-    let w2 = drop(zb, i2).neg();
-    let w0 = drop(zc, i0).neg();
+    let w1 = sub(Num::whole(d), drop(za, i1));
+    let w2 = neg(drop(zb, i2));
+    let w0 = neg(drop(zc, i0));
     seq(w1, w2, w0)
 }

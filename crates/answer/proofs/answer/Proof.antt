@@ -5,7 +5,7 @@ use borrow.Author.Needs.{needs}
 use lib.Seq.{length-take-le}
 use mir.Syntax.{w64}
 use mir.Facts.{toZ-ofZ}
-use Rattle.answer.proofs.Pass.{fault-small}
+use Rattle.pass.proofs.Pass.{fault-small}
 use Rattle.answer.proofs.Whole.{room-stays, earlier-all, passing, whole, in-range, k-in, faulted-good, d-positive, volts-in, amps-good}
 use Rattle.answer.proofs.answer.Statement.{statement}
 use Rattle.answer.proofs.answer.Tie as tie
@@ -22,8 +22,8 @@ mul-at c = search needs
 array-copy-out-at : tie.Need-array-copy-out-at
 array-copy-out-at c = search needs
 
-faulted-requires : tie.Need-faulted-requires
-faulted-requires c κs = in-range (c .before .before .pre .1)
+fault-at-requires : tie.Need-fault-at-requires
+fault-at-requires c κs = in-range (c .before .before .pre .1)
 
 chain-requires : tie.Need-chain-requires
 chain-requires c κs = let p = c .before .before .before .pre .1 in (k-in p .1, earlier-all p)
@@ -41,15 +41,15 @@ top-requires : tie.Need-top-requires
 top-requires c κs =
     let s = c .before .before .before .before .before in
     let p = s .pre .1 in
-    (length-take-le 13 (s .args .out .now) (omega arith), fault-small (s .pre .0) (p .ready) (faulted-good p (c .before .before .faulted .ensures)))
+    (length-take-le 13 (s .args .out .now) (omega arith), fault-small (s .pre .0) (p .ready) (faulted-good p (c .before .before .fault-at .ensures)))
 
 boards-requires : tie.Need-boards-requires
 boards-requires c κs =
     let s = c .before .before .before .before .before .before .before .before in
     let p = s .pre .1 in (
       s .pre .0,
-      passing p refl refl (c .before .before .before .before .before .faulted .ensures) (c .before .before .before .before .chain .ensures),
-      omega (arith, room-stays (c .before .before .before .before .before .faulted .result) (s .args .out .now) (c .before .before .top .ensures) (omega arith)),
+      passing p refl refl (c .before .before .before .before .before .fault-at .ensures) (c .before .before .before .before .chain .ensures),
+      omega (arith, room-stays (c .before .before .before .before .before .fault-at .result) (s .args .out .now) (c .before .before .top .ensures) (omega arith)),
     )
 
 amps-requires : tie.Need-amps-requires
@@ -57,7 +57,7 @@ amps-requires c κs =
     let g = c .before .before .before .before .before .before .before .before .before in
     let s = g .before .before .before in
     let p = s .pre .1 in
-    (volts-in p .0, (volts-in p .1, d-positive p (toZ-ofZ {w = w64} {z = g .faulted .result .d} (search needs)) (g .faulted .ensures)))
+    (volts-in p .0, (volts-in p .1, d-positive p (toZ-ofZ {w = w64} {z = g .fault-at .result .d} (search needs)) (g .fault-at .ensures)))
 
 same-length : tie.Need-same-length
 same-length c = search needs
@@ -66,9 +66,9 @@ returns : tie.Need-returns
 returns c =
     let g = c .before .before .before .before .before .before .before .before .before .before in
     let s = g .before .before .before in (
-      λ q p. amps-good p (c .amps .result) (toZ-ofZ {w = w64} {z = g .faulted .result .d} (search needs)) (g .faulted .ensures) (c .amps .ensures),
-      λ q p. whole p (s .args .out .now) refl (faulted-good p (g .faulted .ensures)) (c .before .before .before .before .before .before .before .top .ensures)
-          (c .before .before .before .before .boards .ensures q (passing p refl refl (g .faulted .ensures) (c .before .before .before .before .before .before .before .before .before .chain .ensures))),
+      λ q p. amps-good p (c .amps .result) (toZ-ofZ {w = w64} {z = g .fault-at .result .d} (search needs)) (g .fault-at .ensures) (c .amps .ensures),
+      λ q p. whole p (s .args .out .now) refl (faulted-good p (g .fault-at .ensures)) (c .before .before .before .before .before .before .before .top .ensures)
+          (c .before .before .before .before .boards .ensures q (passing p refl refl (g .fault-at .ensures) (c .before .before .before .before .before .before .before .before .before .chain .ensures))),
     )
 
 pub answer-spec : {M : Type 1} → statement M
@@ -79,7 +79,7 @@ answer-spec =
     sub-i
     mul-at
     array-copy-out-at
-    faulted-requires
+    fault-at-requires
     chain-requires
     sub-top
     part-top-start

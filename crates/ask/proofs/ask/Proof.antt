@@ -1,27 +1,24 @@
 -- `ask::ask` meets its contract: each return is one outcome of the fault's rows. Assumes nothing.
 use mathlib.Core.Path.{_≡_, sym, _∙_}
-use Prim.Native.Nat.{ℕ, _≤_}
+use Prim.Native.Nat.{ℕ, _-_, _≤_}
 use native.Mathlib.Omega.{arith}
-use lib.ListN.{length, take}
+use lib.ListN.{length, getD, take}
 use lib.Seq.{length-take-le}
 use borrow.Author.Needs.{needs}
 use Rattle.paper.specs.declared.Fault.{Fault}
-use Rattle.paper.specs.Chain.{Boards}
-use Rattle.paper.specs.Refusal.{earthMissing}
+use Rattle.paper.specs.Chain.{Boards, startsAt}
 use Rattle.paper.proofs.Places.{place-most}
-use Rattle.feed.specs.Node.{noNode}
-use Rattle.ask.proofs.Outcomes.{Found, earth-is, start-read, ask-12, ask-13, ask-14, ask-15, ask-16, ask-17, ask-18, ask-19, ask-0}
+use Rattle.node.specs.Node.{noNode}
+use Rattle.ask.proofs.Outcomes.{Found, start-read, ask-12, ask-13, ask-14, ask-to-17, ask-18, ask-19, ask-0}
 use Rattle.ask.proofs.ask.Statement.{statement}
 use Rattle.ask.proofs.ask.Tie as tie
 use Rattle.ask.proofs.ask.Reads as reads
 use Rattle.ask.proofs.ask.Lts as lts
 use Rattle.ask.proofs.accepted.Reads as accepted-reads
 use Rattle.ask.proofs.refused.Reads as refused-reads
-use Rattle.ask.proofs.rules.earth_missing.Reads as earth-missing-reads
-use Rattle.ask.proofs.rules.phase_wrong.Reads as phase-wrong-reads
-use Rattle.ask.proofs.rules.zf_over.Reads as zf-over-reads
+use Rattle.fault_rules.proofs.broken.Reads as broken-reads
 use Rattle.file.proofs.bytes.fault_of.Reads as fault-of-reads
-use Rattle.file.proofs.bytes.u16_at.Reads as u16-at-reads
+use Rattle.field.proofs.u16_at.Reads as u16-at-reads
 use Rattle.search.proofs.lookup.Reads as lookup-reads
 
 refused-requires : tie.Need-refused-requires
@@ -94,91 +91,52 @@ sub-i c = search needs
 cast-place : tie.Need-cast-place
 cast-place c = record { fits = omega (arith, few c) }
 
+mul-node : tie.Need-mul-node
+mul-node c = record { fits = omega (arith, few c) }
+
+array-copy-out-node : tie.Need-array-copy-out-node
+array-copy-out-node c = omega (arith, few c, c .if3 .left)
+
+broken-requires : tie.Need-broken-requires
+broken-requires c κs = search needs
+
+-- ---- what is known once the rules of the fault itself have been tried
+abbrev place : tie.After-broken → Placed
+place b = b .before .before
+
+-- (`t3` is the parameter `nodes`)
+starts : (b : tie.After-broken) → getD (start (place b) .args .t3) (k (place b) - 1) noNode .start ≡ startsAt (bs (place b)) (k (place b))
+starts b = let p = place b in start-read (bs p) noNode (k p) (start p .pre .1) (p .if3 .left) (among p)
+
 refused-requires-4 : tie.Need-refused-requires-4
 refused-requires-4 c κs = search needs
 
 returns-4 : tie.Need-returns-4
-returns-4 c = ask-15 _ _ _ (found (c .before .before .before)) (c .before .if4 .taken) (c .refused4 .ensures)
-
-phase-wrong-requires : tie.Need-phase-wrong-requires
-phase-wrong-requires c κs = search needs
+returns-4 c = let b = c .before .before in ask-18 _ _ _ (found (place b)) (starts b) (b .broken .ensures) (c .before .if4 .taken) (c .refused4 .ensures)
 
 refused-requires-5 : tie.Need-refused-requires-5
 refused-requires-5 c κs = search needs
 
 returns-5 : tie.Need-returns-5
-returns-5 c =
-    let w = c .before .before in
-    ask-16 _ _ _ (found (w .before .before .before)) (w .before .if4 .left) (w .phase-wrong .ensures) (c .before .if5 .taken) (c .refused5 .ensures)
+returns-5 c = let b = c .before .before .before in ask-to-17 _ _ _ (found (place b)) (starts b) (b .broken .ensures) (c .before .before .if4 .left) (c .before .if5 .taken) (c .refused5 .ensures)
 
-abbrev place : tie.Else5 → Placed
-place c = c .before .before .before .before
+mul-if6 : tie.Need-mul-if6
+mul-if6 c = search needs
 
-mul-node : tie.Need-mul-node
-mul-node c = record { fits = omega (arith, few (place c)) }
-
-array-copy-out-node : tie.Need-array-copy-out-node
-array-copy-out-node c = omega (arith, few (place c), place c .if3 .left)
-
-zf-over-requires : tie.Need-zf-over-requires
-zf-over-requires c κs = search needs
-
-earth-missing-requires : tie.Need-earth-missing-requires
-earth-missing-requires c κs = search needs
-
-earth : (c : tie.After-earth-missing) → c .earth-missing .result ≡ earthMissing (bs (place (c .before .before .before))) (k (place (c .before .before .before))) (fault (place (c .before .before .before)))
-earth c =
-    let p = place (c .before .before .before) in
-    c .earth-missing .ensures ∙ earth-is (bs p) (k p) (fault p) (start-read (bs p) noNode (k p) (start p .pre .1) (p .if3 .left) (among p))
+add-if6 : tie.Need-add-if6
+add-if6 c = search needs
 
 refused-requires-6 : tie.Need-refused-requires-6
 refused-requires-6 c κs = search needs
 
 returns-6 : tie.Need-returns-6
-returns-6 c =
-    let v = c .before .before .before in
-    let w = v .before .before .before in
-    ask-17 _ _ _ (found (w .before .before .before)) (w .before .if4 .left) (w .phase-wrong .ensures) (v .before .before .if5 .left) (v .zf-over .ensures) (c .before .if6 .taken) (c .refused6 .ensures)
-
-refused-requires-7 : tie.Need-refused-requires-7
-refused-requires-7 c κs = search needs
-
-returns-7 : tie.Need-returns-7
-returns-7 c =
-    let g = c .before .before .before in
-    let v = g .before in
-    let w = v .before .before .before in
-    ask-18 _ _ _ (found (w .before .before .before)) (w .before .if4 .left) (w .phase-wrong .ensures) (v .before .before .if5 .left) (v .zf-over .ensures) (c .before .before .if6 .left) (earth g) (c .before .if7 .taken) (c .refused7 .ensures)
-
-mul-if8 : tie.Need-mul-if8
-mul-if8 c = search needs
-
-add-if8 : tie.Need-add-if8
-add-if8 c = search needs
-
-refused-requires-8 : tie.Need-refused-requires-8
-refused-requires-8 c κs = search needs
-
-returns-8 : tie.Need-returns-8
-returns-8 c =
-    let e = c .before .before in
-    let g = e .before .before in
-    let v = g .before in
-    let w = v .before .before .before in
-    let p = w .before .before .before in
-    ask-19 _ _ _ (found p) (w .before .if4 .left) (w .phase-wrong .ensures) (v .before .before .if5 .left) (v .zf-over .ensures) (e .before .if6 .left) (earth g) (e .if7 .left) (long p) (c .before .if8 .taken) (c .refused8 .ensures)
+returns-6 c = let b = c .before .before .before .before in ask-19 _ _ _ (found (place b)) (starts b) (b .broken .ensures) (c .before .before .if5 .left) (long (place b)) (c .before .if6 .taken) (c .refused6 .ensures)
 
 accepted-requires : tie.Need-accepted-requires
 accepted-requires c κs = search needs
 
-returns-9 : tie.Need-returns-9
-returns-9 c =
-    let e = c .before .before in
-    let g = e .before .before in
-    let v = g .before in
-    let w = v .before .before .before in
-    let p = w .before .before .before in
-    ask-0 _ _ _ (found p) (w .before .if4 .left) (w .phase-wrong .ensures) (v .before .before .if5 .left) (v .zf-over .ensures) (e .before .if6 .left) (earth g) (e .if7 .left) (long p) (c .before .if8 .left) (c .accepted .ensures)
+returns-7 : tie.Need-returns-7
+returns-7 c = let b = c .before .before .before .before in ask-0 _ _ _ (found (place b)) (starts b) (b .broken .ensures) (c .before .before .if5 .left) (long (place b)) (c .before .if6 .left) (c .accepted .ensures)
 
 pub ask-spec : {M : Type 1} → statement M
 ask-spec =
@@ -195,22 +153,16 @@ ask-spec =
     returns-3
     sub-i
     cast-place
-    refused-requires-4
-    returns-4
-    phase-wrong-requires
-    refused-requires-5
-    returns-5
     mul-node
     array-copy-out-node
-    zf-over-requires
-    earth-missing-requires
+    broken-requires
+    refused-requires-4
+    returns-4
+    refused-requires-5
+    returns-5
+    mul-if6
+    add-if6
     refused-requires-6
     returns-6
-    refused-requires-7
-    returns-7
-    mul-if8
-    add-if8
-    refused-requires-8
-    returns-8
     accepted-requires
-    returns-9)
+    returns-7)

@@ -4,7 +4,7 @@ use native.Mathlib.Omega.{arith}
 use borrow.Author.Needs.{needs}
 use lib.ListN.{length}
 use Rattle.decimal.proofs.Writes.{left-by, left-then, left-last, room-front, wrote-length}
-use Rattle.lines.proofs.Unspaced.{front, unspaced-most}
+use Rattle.name.proofs.Unspaced.{front, unspaced-most}
 use Rattle.board_lines.proofs.Boards.{board-pieces}
 use Rattle.board_lines.proofs.put_board.Statement.{statement}
 use Rattle.board_lines.proofs.put_board.Tie as tie

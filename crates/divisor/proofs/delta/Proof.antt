@@ -4,8 +4,8 @@ use borrow.Author.Needs.{needs}
 use Rattle.turn.specs.Number.{_+N_, _*N_}
 use Rattle.paper.specs.Fault.{Δ}
 use Rattle.paper.proofs.Row.{GOf}
-use Rattle.paper.proofs.Needs.{ForΔ, for-Δ, within-is}
-use Rattle.paper.proofs.Sizes.{ranged}
+use Rattle.fits.proofs.Needs.{ForΔ, for-Δ, within-is}
+use Rattle.fits.proofs.Sizes.{ranged}
 use Rattle.divisor.proofs.delta.Statement.{statement}
 use Rattle.divisor.proofs.delta.Tie as tie
 

@@ -3,11 +3,11 @@ use mathlib.Core.Path.{sym, ap, ap₂, _∙_}
 use native.Mathlib.Omega.{arith}
 use borrow.Author.Needs.{needs}
 use Rattle.turn.specs.Number.{powerN, _+N_}
-use Rattle.turn.specs.Bounds.{Addable}
+use Rattle.sum.specs.Bounds.{Addable}
 use Rattle.paper.specs.Fault.{Short, shorts, shortOf}
 use Rattle.paper.proofs.Row.{GOf, no-row}
-use Rattle.paper.proofs.Needs.{for-G, ForSums, for-sums, within-is}
-use Rattle.paper.proofs.Sizes.{ranged}
+use Rattle.fits.proofs.Needs.{for-G, ForSums, for-sums, within-is}
+use Rattle.fits.proofs.Sizes.{ranged}
 use Rattle.divisor.proofs.divisor.Statement.{statement}
 use Rattle.divisor.proofs.divisor.Tie as tie
 

@@ -4,8 +4,8 @@ use borrow.Author.Needs.{needs}
 use Rattle.turn.specs.declared.Num.{Num}
 use Rattle.turn.specs.Number.{_+N_}
 use Rattle.paper.specs.Fault.{G}
-use Rattle.paper.proofs.Needs.{ForG, for-G, within-is}
-use Rattle.paper.proofs.Sizes.{ranged}
+use Rattle.fits.proofs.Needs.{ForG, for-G, within-is}
+use Rattle.fits.proofs.Sizes.{ranged}
 use Rattle.divisor.proofs.earthed.Statement.{statement}
 use Rattle.divisor.proofs.earthed.Tie as tie
 

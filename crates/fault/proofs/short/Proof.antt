@@ -9,8 +9,8 @@ use Rattle.turn.specs.Number.{_*N_, conjN, squareN}
 use Rattle.paper.specs.declared.Seq.{Seq}
 use Rattle.paper.specs.Fault.{seq, D, currents}
 use Rattle.paper.proofs.Row.{rowOf}
-use Rattle.paper.proofs.Needs.{ForCurrents, for-currents, within-is, factors-are}
-use Rattle.paper.proofs.Sizes.{ranged}
+use Rattle.fits.proofs.Needs.{ForCurrents, for-currents, within-is, factors-are}
+use Rattle.fits.proofs.Sizes.{ranged}
 use Rattle.fault.specs.declared.Shorted.{Shorted}
 use Rattle.fault.specs.Short.{shortedOf}
 use Rattle.fault.proofs.short.Statement.{statement}

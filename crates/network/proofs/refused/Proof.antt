@@ -1,7 +1,7 @@
 -- `network::refused` meets its contract: the tables are empty. Assumes nothing.
-use Rattle.feed.specs.Node.{noNode}
-use Rattle.records.specs.Tables.{emptyBoard}
-use Rattle.records.proofs.Tables.{empty-table}
+use Rattle.node.specs.Node.{noNode}
+use Rattle.node.specs.Tables.{emptyBoard}
+use Rattle.node.proofs.Tables.{empty-table}
 use Rattle.network.proofs.Whole.{refused-is}
 use borrow.Author.Needs.{needs}
 use Rattle.network.proofs.refused.Statement.{statement}
@@ -9,7 +9,7 @@ use Rattle.network.proofs.refused.Tie as tie
 use Rattle.network.proofs.refused.Reads as reads
 use Rattle.network.proofs.refused.Lts as lts
 use Rattle.feed.proofs.sums.no_node.Reads as no-node-reads
-use Rattle.records.proofs.table.empty_board.Reads as empty-board-reads
+use Rattle.table.proofs.empty_board.Reads as empty-board-reads
 
 empty-board-requires : tie.Need-empty-board-requires
 empty-board-requires c κs = search needs

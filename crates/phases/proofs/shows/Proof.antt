@@ -5,7 +5,7 @@ use borrow.Author.Needs.{needs}
 use Rattle.turn.specs.declared.Num.{Num}
 use Rattle.turn.specs.Number.{_+N_, turnN}
 use Rattle.paper.specs.Phase.{shows}
-use Rattle.paper.proofs.Needs.{ForShown, for-shown, within-is}
+use Rattle.fits.proofs.Needs.{ForShown, for-shown, within-is}
 use Rattle.phases.proofs.shows.Statement.{statement}
 use Rattle.phases.proofs.shows.Tie as tie
 

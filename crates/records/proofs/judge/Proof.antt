@@ -6,23 +6,23 @@ use Prim.Native.Nat.{ℕ, suc, _+_, _*_, _-_, _≤_, _<_}
 use native.Mathlib.Omega.{arith}
 use borrow.Author.Needs.{needs}
 use lib.ListN.{length}
-use Rattle.feed.specs.declared.Node.{Node}
+use Rattle.node.specs.declared.Node.{Node}
 use Rattle.paper.specs.Bytes.{u16At}
 use Rattle.paper.specs.Chain.{noBoard}
-use Rattle.search.specs.declared.Places.{Places}
-use Rattle.feed.specs.Node.{nodeOf, noNode}
+use Rattle.places.specs.declared.Places.{Places}
+use Rattle.node.specs.Node.{nodeOf, noNode}
 use Rattle.inspect.specs.Rules.{earlier, stepOf}
-use Rattle.records.specs.Tables.{table, emptyBoard}
-use Rattle.records.proofs.Tables.{empty-table}
+use Rattle.node.specs.Tables.{table, emptyBoard}
+use Rattle.node.proofs.Tables.{empty-table}
 use Rattle.records.proofs.Reading.{Read, read-none, before, feeder}
-use Rattle.records.proofs.Records.{count}
+use Rattle.node.proofs.Records.{count}
 use Rattle.records.proofs.Turn.{b, own, fed, board-read, own-read, fed-read, up-read, up-fits, goes-on, refuses, all-read}
 use Rattle.records.proofs.judge.Statement.{statement}
 use Rattle.records.proofs.judge.Tie as tie
 use Rattle.records.proofs.judge.Reads as reads
 use Rattle.records.proofs.judge.Lts as lts
-use Rattle.file.proofs.bytes.u16_at.Reads as u16-at-reads
-use Rattle.records.proofs.wide.Reads as wide-reads
+use Rattle.field.proofs.u16_at.Reads as u16-at-reads
+use Rattle.node.proofs.index.Reads as index-reads
 use Rattle.inspect.proofs.rules.earlier.Reads as earlier-reads
 use Rattle.inspect.proofs.rules.step.Reads as step-reads
 use Rattle.feed.proofs.sums.no_node.Reads as no-node-reads
@@ -59,23 +59,23 @@ mul-b c = omega arith
 array-copy-out-b : tie.Need-array-copy-out-b Inv-loop μ-loop
 array-copy-out-b c = omega arith
 
-mul-wide : tie.Need-mul-wide Inv-loop μ-loop
-mul-wide c = omega arith
+mul-index : tie.Need-mul-index Inv-loop μ-loop
+mul-index c = omega arith
 
-array-read-wide : tie.Need-array-read-wide Inv-loop μ-loop
-array-read-wide c = omega arith
+array-read-index : tie.Need-array-read-index Inv-loop μ-loop
+array-read-index c = omega arith
 
-wide-requires : tie.Need-wide-requires Inv-loop μ-loop
-wide-requires c κs = search needs
+index-requires : tie.Need-index-requires Inv-loop μ-loop
+index-requires c κs = search needs
 
-mul-wide-2 : tie.Need-mul-wide-2 Inv-loop μ-loop
-mul-wide-2 c = omega arith
+mul-index-2 : tie.Need-mul-index-2 Inv-loop μ-loop
+mul-index-2 c = omega arith
 
-array-read-wide-2 : tie.Need-array-read-wide-2 Inv-loop μ-loop
-array-read-wide-2 c = omega arith
+array-read-index-2 : tie.Need-array-read-index-2 Inv-loop μ-loop
+array-read-index-2 c = omega arith
 
-wide-requires-2 : tie.Need-wide-requires-2 Inv-loop μ-loop
-wide-requires-2 c κs = search needs
+index-requires-2 : tie.Need-index-requires-2 Inv-loop μ-loop
+index-requires-2 c κs = search needs
 
 earlier-requires : tie.Need-earlier-requires Inv-loop μ-loop
 earlier-requires c κs = search needs
@@ -114,11 +114,11 @@ in-file c = let n = start c .pre .0 in let l = c .before .before .before .before
 few : (c : Turn) → count (net c) ≤ 256
 few c = let n = start c .pre .0 in let l = start c .pre .1 in omega arith
 
-fed-is : (c : Turn) → c .before .before .wide2 .result ≡ fed (net c) (at c) (nodes c) (in-file c) (read c) (few c)
-fed-is c = c .before .before .wide2 .ensures ∙ fed-read (net c) (at c) (nodes c) (in-file c) (read c) (few c) (ap (λ (p : Places). p .fed) (start c .pre .4))
+fed-is : (c : Turn) → c .before .before .index2 .result ≡ fed (net c) (at c) (nodes c) (in-file c) (read c) (few c)
+fed-is c = c .before .before .index2 .ensures ∙ fed-read (net c) (at c) (nodes c) (in-file c) (read c) (few c) (ap (λ (p : Places). p .fed) (start c .pre .4))
 
-own-is : (c : Turn) → c .before .before .before .wide .result ≡ own (net c) (at c) (nodes c) (in-file c) (read c) (few c)
-own-is c = c .before .before .before .wide .ensures ∙ own-read (net c) (at c) (nodes c) (in-file c) (read c) (few c) (ap (λ (p : Places). p .own) (start c .pre .4))
+own-is : (c : Turn) → c .before .before .before .index .result ≡ own (net c) (at c) (nodes c) (in-file c) (read c) (few c)
+own-is c = c .before .before .before .index .ensures ∙ own-read (net c) (at c) (nodes c) (in-file c) (read c) (few c) (ap (λ (p : Places). p .own) (start c .pre .4))
 
 up-good : (c : Turn) → c .if1 .up ≡ nodeOf (before (net c) (at c) (nodes c) (in-file c) (read c)) (feeder (net c) (at c) (nodes c) (in-file c) (read c))
 up-good c =
@@ -187,12 +187,12 @@ judge-spec =
     u16-at-requires
     mul-b
     array-copy-out-b
-    mul-wide
-    array-read-wide
-    wide-requires
-    mul-wide-2
-    array-read-wide-2
-    wide-requires-2
+    mul-index
+    array-read-index
+    index-requires
+    mul-index-2
+    array-read-index-2
+    index-requires-2
     earlier-requires
     sub-up
     mul-up

@@ -6,9 +6,9 @@ use lib.ListN.{length, take}
 use borrow.Author.Needs.{needs}
 use Rattle.paper.specs.Phase.{Asked, asked}
 use Rattle.network.specs.declared.Network.{Network}
-use Rattle.feed.specs.Node.{noNode}
-use Rattle.records.specs.Tables.{table, nodesOf}
-use Rattle.ask.proofs.Laws.{of-network}
+use Rattle.node.specs.Node.{noNode}
+use Rattle.node.specs.Tables.{table, nodesOf}
+use Rattle.solve.proofs.Asking.{of-network}
 use Rattle.answer.specs.Posed.{Posed}
 use Rattle.solve.proofs.Outcomes.{Asking, refused-network, refused-fault, none-broken, as-posed, as-counted, room-there, refuses, accepts}
 use Rattle.solve.proofs.solve.Statement.{statement}

@@ -4,8 +4,8 @@ use lib.Dec.{lit≤}
 use borrow.Author.Needs.{needs}
 use Rattle.turn.specs.declared.Num.{Num}
 use Rattle.turn.specs.Number.{_*N_}
-use Rattle.paper.proofs.Plane.{plane-num, factors}
-use Rattle.paper.proofs.Needs.{factors-are}
+use Rattle.fits.proofs.Plane.{plane-num, factors}
+use Rattle.fits.proofs.Needs.{factors-are}
 use Rattle.volts.proofs.drop.Statement.{statement}
 use Rattle.volts.proofs.drop.Tie as tie
 

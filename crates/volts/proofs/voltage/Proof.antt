@@ -5,7 +5,7 @@ use borrow.Author.Needs.{needs}
 use Rattle.turn.specs.Number.{wholeN, _-N_, negN}
 use Rattle.paper.specs.Fault.{seq}
 use Rattle.paper.specs.Phase.{voltageOf}
-use Rattle.paper.proofs.Needs.{ForVoltage, for-voltage, within-is}
+use Rattle.fits.proofs.Needs.{ForVoltage, for-voltage, within-is}
 use Rattle.volts.proofs.voltage.Statement.{statement}
 use Rattle.volts.proofs.voltage.Tie as tie
 

@@ -3,7 +3,7 @@ use mathlib.Core.Path.{_∙_}
 use Prim.Native.Nat.{_+_}
 use borrow.Author.Needs.{needs}
 use Rattle.paper.specs.Kind.{ohms, kindOf}
-use Rattle.feed.specs.Node.{withZero, nodeFrom}
+use Rattle.node.specs.Node.{withZero, nodeFrom}
 use Rattle.feed.proofs.sums.node_from.Statement.{statement}
 use Rattle.feed.proofs.sums.node_from.Tie as tie
 

@@ -1,5 +1,5 @@
 -- `feed::sums::node_over` meets its contract. Assumes nothing.
-use Rattle.feed.specs.Node.{nodeOver}
+use Rattle.node.specs.Node.{nodeOver}
 use borrow.Author.Needs.{needs}
 use Rattle.feed.proofs.sums.node_over.Statement.{statement}
 use Rattle.feed.proofs.sums.node_over.Tie as tie

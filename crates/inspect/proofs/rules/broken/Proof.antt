@@ -7,7 +7,7 @@ use Rattle.inspect.proofs.rules.broken.Reads as reads
 use Rattle.inspect.proofs.rules.broken.Lts as lts
 use Rattle.kind.proofs.impedance_wrong.Reads as impedance-wrong-reads
 use Rattle.kind.proofs.kind_wrong.Reads as kind-wrong-reads
-use Rattle.label.proofs.formed.Reads as formed-reads
+use Rattle.formed.proofs.formed.Reads as formed-reads
 use Rattle.inspect.proofs.rules.fed_wrong.Reads as fed-wrong-reads
 
 returns : tie.Need-returns

@@ -1,0 +1,55 @@
+-- `board::board` meets its contract: voltages of what is left, then currents of what is passed. Assumes nothing.
+use mathlib.Core.Path.{_≡_, sym, ap, _∙_, subst}
+use mathlib.Core.List.{List, _++_}
+use lib.IntN.{ℤ}
+use borrow.Author.Needs.{needs}
+use Rattle.paper.specs.declared.Seq.{Seq}
+use Rattle.paper.specs.Phase.{phases}
+use Rattle.paper.specs.Bounds.{Plane, EachSeq, mostW}
+use Rattle.put.specs.Put.{twelveOf}
+use Rattle.board.specs.Faulted.{numbersOf}
+use Rattle.board.proofs.Twelve.{twelve-phases}
+use Rattle.board.proofs.Small.{left-small, passed-small}
+use Rattle.board.proofs.board.Statement.{statement}
+use Rattle.board.proofs.board.Tie as tie
+
+left-requires : tie.Need-left-requires
+left-requires c κs = search needs
+
+passed-requires : tie.Need-passed-requires
+passed-requires c κs = search needs
+
+shown-requires : tie.Need-shown-requires
+shown-requires c κs = let s = c .before .before in let h = s .pre .1 in ((h .phase-to, h .turn-small, s .pre .3), subst (EachSeq (Plane mostW)) (sym (c .before .left .ensures)) (left-small h (s .pre .2)))
+
+shown-requires-2 : tie.Need-shown-requires-2
+shown-requires-2 c κs = let s = c .before .before .before in let h = s .pre .1 in ((h .phase-to, h .turn-small, s .pre .3), subst (EachSeq (Plane mostW)) (sym (c .before .passed .ensures)) (passed-small h (s .args .on) (s .args .node)))
+
+both-requires : tie.Need-both-requires
+both-requires c κs = search needs
+
+same-length : tie.Need-same-length
+same-length c = search needs
+
+returns : tie.Need-returns
+unfolding numbersOf
+returns c =
+    let d = c .before .before .before in
+    let s = d .before .before .before .before in
+    let f = s .args .f in
+    let showing : Seq → List (List ℤ) = phases (f .phase) (s .args .node .turn) (f .turn) in
+    let v = d .before .shown .ensures ∙ ap showing (d .before .before .before .left .ensures) in
+    let i = d .shown2 .ensures ∙ ap showing (d .before .before .passed .ensures) in
+    c .before .both .ensures ∙ (λ k. (ap twelveOf v ∙ twelve-phases _ _ _ _) k ++ (ap twelveOf i ∙ twelve-phases _ _ _ _) k)
+
+pub board-spec : {M : Type 1} → statement M
+board-spec =
+    tie.close
+    (tie.spec
+    left-requires
+    passed-requires
+    shown-requires
+    shown-requires-2
+    both-requires
+    same-length
+    returns)

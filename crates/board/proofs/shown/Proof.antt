@@ -1,0 +1,19 @@
+-- `board::shown` meets its contract. Assumes nothing.
+use borrow.Author.Needs.{needs}
+use Rattle.board.proofs.shown.Statement.{statement}
+use Rattle.board.proofs.shown.Tie as tie
+
+cast-phases : tie.Need-cast-phases
+cast-phases c = search needs
+
+cast-phases-2 : tie.Need-cast-phases-2
+cast-phases-2 c = search needs
+
+phases-requires : tie.Need-phases-requires
+phases-requires c κs = search needs
+
+returns : tie.Need-returns
+returns c = c .phases .ensures
+
+pub shown-spec : {M : Type 1} → statement M
+shown-spec = tie.close (tie.spec cast-phases cast-phases-2 phases-requires returns)

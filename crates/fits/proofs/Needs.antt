@@ -1,0 +1,156 @@
+-- What `sum`, `product` and `turns` ask at each step, in the order in which the table is computed: of add, sub and conj each operand (Addable), of mul both (Factors), of neg,
+-- turn and square theirs. Assumes nothing.
+use mathlib.Core.Path.{_≡_, sym, subst}
+use Prim.Native.Nat.{ℕ}
+use lib.Dec.{lit≤}
+use lib.IntN.{ℤ}
+use Rattle.lemmas.specs.Small.{Small}
+use Rattle.turn.specs.declared.Num.{Num}
+use Rattle.turn.specs.Number.{wholeN, oneN, _+N_, _*N_, turnN, conjN}
+use Rattle.turn.specs.Bounds.{Within}
+use Rattle.sum.specs.Bounds.{Addable, Negatable}
+use Rattle.product.specs.Bounds.{Squarable, Factors}
+use Rattle.turns.specs.Bounds.{Turnable}
+use Rattle.turn.proofs.Within.{within-weak, within-add}
+use Rattle.paper.specs.declared.Ohms.{Ohms}
+use Rattle.paper.specs.declared.Seq.{Seq}
+use Rattle.paper.specs.Fault.{numOf}
+use Rattle.paper.proofs.Row.{GOf, rowOf}
+use Rattle.paper.specs.Bounds.{AtMost, Plane, EachSeq, mostD, mostI, mostW}
+use Rattle.fits.proofs.Plane.{plane-num, plane-whole, plane-add, plane-mul, plane-conj, plane-turn, addable, negatable, turnable, squarable, factors}
+use Rattle.fits.proofs.Sizes.{Ranged, plane-one, G-plane, divisor-plane, above-plane, drop-plane, sum-within}
+
+-- ---- the divisor
+-- "G = Z0 + 3Zf"
+pub record ForG (Z0 Zf : Num) : Type 0 where
+  pub once : Addable Zf
+  pub twice : Addable (Zf +N Zf)
+  pub thrice : Addable (Zf +N Zf +N Zf)
+  pub zero : Addable Z0
+
+-- the sums of kinds 0 to 2
+pub record ForSums (Z1 Z2 G : Num) : Type 0 where
+  pub first : Addable Z1
+  pub second : Addable Z2
+  pub both : Addable (Z1 +N Z2)
+  pub earth : Addable G
+
+-- "Δ = Z1·Z2 + Z1·G + Z2·G", and -G and -Z2 above it
+pub record ForΔ (Z1 Z2 G : Num) : Type 0 where
+  pub times12 : Factors Z1 Z2
+  pub times1G : Factors Z1 G
+  pub times2G : Factors Z2 G
+  pub product12 : Addable (Z1 *N Z2)
+  pub product1G : Addable (Z1 *N G)
+  pub sum : Addable (Z1 *N Z2 +N Z1 *N G)
+  pub product2G : Addable (Z2 *N G)
+  pub negG : Negatable G
+  pub neg2 : Negatable Z2
+
+-- "-I1" of kind 2
+pub for-minus : Negatable oneN
+for-minus = negatable plane-one (lit≤ tt)
+
+module _ {z1 z2 z0 zf : Ohms} (s : Ranged z1 z2 z0 zf) where
+  pub for-G : ForG (numOf z0) (numOf zf)
+  for-G =
+      let f = plane-num (s .uptof) in
+      record {
+        once = addable f (lit≤ tt);
+        twice = addable (plane-add f f) (lit≤ tt);
+        thrice = addable (plane-add (plane-add f f) f) (lit≤ tt);
+        zero = addable (plane-num (s .upto0)) (lit≤ tt);
+      }
+
+  pub for-sums : ForSums (numOf z1) (numOf z2) (GOf z1 z2 z0 zf)
+  for-sums =
+      let p1 = plane-num (s .upto1) in
+      let p2 = plane-num (s .upto2) in
+      record { first = addable p1 (lit≤ tt); second = addable p2 (lit≤ tt); both = addable (plane-add p1 p2) (lit≤ tt); earth = addable (G-plane s) (lit≤ tt) }
+
+  pub for-Δ : ForΔ (numOf z1) (numOf z2) (GOf z1 z2 z0 zf)
+  for-Δ =
+      let p1 = plane-num (s .upto1) in
+      let p2 = plane-num (s .upto2) in
+      let g = G-plane s in
+      record {
+        times12 = factors p1 p2 (lit≤ tt);
+        times1G = factors p1 g (lit≤ tt);
+        times2G = factors p2 g (lit≤ tt);
+        product12 = addable (plane-mul p1 p2) (lit≤ tt);
+        product1G = addable (plane-mul p1 g) (lit≤ tt);
+        sum = addable (plane-add (plane-mul p1 p2) (plane-mul p1 g)) (lit≤ tt);
+        product2G = addable (plane-mul p2 g) (lit≤ tt);
+        negG = negatable g (lit≤ tt);
+        neg2 = negatable p2 (lit≤ tt);
+      }
+
+-- ---- D and the currents
+pub record ForCurrents (d : Num) (above : Seq) : Type 0 where
+  pub square : Squarable d
+  pub conjugate : Addable d
+  pub times : EachSeq (λ n. Factors n (conjN d)) above
+
+pub for-currents : {z1 z2 z0 zf : Ohms} (s : Ranged z1 z2 z0 zf) (kind : ℕ) → ForCurrents (rowOf z1 z2 z0 zf kind .divisor) (rowOf z1 z2 z0 zf kind .above)
+for-currents s kind =
+    let d = divisor-plane s kind in
+    let c = plane-conj d in
+    let n = above-plane s kind in
+    record {
+      square = squarable d (lit≤ tt);
+      conjugate = addable d (lit≤ tt);
+      times = record { e1 = factors (n .e1) c (lit≤ tt); e2 = factors (n .e2) c (lit≤ tt); e0 = factors (n .e0) c (lit≤ tt) };
+    }
+
+-- ---- the referred voltages
+pub record ForVoltage (D : ℤ) (I : Seq) (za zb zc : Ohms) : Type 0 where
+  pub times1 : Factors (numOf za) (I .s1)
+  pub times2 : Factors (numOf zb) (I .s2)
+  pub times0 : Factors (numOf zc) (I .s0)
+  pub whole : Addable (wholeN D)
+  pub drop1 : Addable (numOf za *N I .s1)
+  pub drop2 : Negatable (numOf zb *N I .s2)
+  pub drop0 : Negatable (numOf zc *N I .s0)
+
+pub for-voltage : {D : ℤ} {I : Seq} {za zb zc : Ohms} → Small mostD D → EachSeq (Plane mostI) I → AtMost 4095 za → AtMost 4095 zb → AtMost 4095 zc → ForVoltage D I za zb zc
+for-voltage d p ua ub uc =
+    record {
+      times1 = factors (plane-num ua) (p .e1) (lit≤ tt);
+      times2 = factors (plane-num ub) (p .e2) (lit≤ tt);
+      times0 = factors (plane-num uc) (p .e0) (lit≤ tt);
+      whole = addable (plane-whole d) (lit≤ tt);
+      drop1 = addable (drop-plane ua (p .e1)) (lit≤ tt);
+      drop2 = negatable (drop-plane ub (p .e2)) (lit≤ tt);
+      drop0 = negatable (drop-plane uc (p .e0)) (lit≤ tt);
+    }
+
+-- ---- a phase that is shown: a and b are the two turns
+pub record ForShown (X : Seq) (a b : ℕ) : Type 0 where
+  pub turn1 : Turnable (X .s1)
+  pub turn2 : Turnable (X .s2)
+  pub first : Addable (X .s0)
+  pub turned1 : Addable (turnN a (X .s1))
+  pub sum : Addable (X .s0 +N turnN a (X .s1))
+  pub turned2 : Addable (turnN b (X .s2))
+  pub total : Turnable (X .s0 +N turnN a (X .s1) +N turnN b (X .s2))
+
+pub for-shown : {X : Seq} → EachSeq (Plane mostW) X → (a b : ℕ) → ForShown X a b
+for-shown p a b =
+    let u = plane-turn a (p .e1) in
+    let v = plane-turn b (p .e2) in
+    record {
+      turn1 = turnable (p .e1) (lit≤ tt);
+      turn2 = turnable (p .e2) (lit≤ tt);
+      first = addable (p .e0) (lit≤ tt);
+      turned1 = within-weak (lit≤ tt) u;
+      sum = within-weak (lit≤ tt) (within-add (p .e0 .within) u);
+      turned2 = within-weak (lit≤ tt) v;
+      total = within-weak (lit≤ tt) (sum-within p a b);
+    }
+
+-- ---- what holds of a number holds of a result that is that number
+pub within-is : {b : ℕ} {m n : Num} → m ≡ n → Within b n → Within b m
+within-is {b} e w = subst (Within b) (sym e) w
+
+pub factors-are : {k l m n : Num} → k ≡ m → l ≡ n → Factors m n → Factors k l
+factors-are d e f = rw (d, e) f

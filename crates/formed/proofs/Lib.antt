@@ -1,0 +1,2 @@
+-- a label's form, from the back
+pub mod FromTheBack

@@ -1,0 +1,2 @@
+-- Theorems about the pass over the boards. None needs believing.
+pub mod Pass
