@@ -86,15 +86,26 @@ fn shown(f: Faulted, turn: u16, x: Seq) -> [[i64; 4]; 3]
     phases(f.phase as usize, turn as usize, f.turn as usize, x)
 }
 
+// The phases of a record's currents. Off the chain it carries nothing, so there is nothing to turn: most records of a large network.
+fn flowing(f: Faulted, on: bool, node: Node) -> [[i64; 4]; 3]
+    requires { ⌜ (FaultSmall f) × (node .turn ≤ 2816) ⌝ }
+    ensures { λ r. ⌜ r ≡ phases (f .phase) (node .turn) (f .turn) (passedOf f on node) ⌝ }
+{
+    if !on {
+        let none: [i64; 4] = [0, 0, 0, 0];
+        return [none, none, none];
+    }
+    let i = passed(f, on, node);
+    shown(f, node.turn, i)
+}
+
 // The 24 numbers of a board, over its part of the buffer.
 pub fn board(out: &mut [i64], f: Faulted, on: bool, node: Node, s: Shared)
     requires { ⌜ (length (now out) ≡ 24) × (FaultSmall f) × (ShareSmall s) × (node .turn ≤ 2816) ⌝ }
     ensures { λ _. ⌜ now (out .exit) ≡ numbersOf f on node s ⌝ }
 {
-    let turn = node.turn;
     let w = left(f, s);
-    let i = passed(f, on, node);
-    let v = shown(f, turn, w);
-    let c = shown(f, turn, i);
+    let v = shown(f, node.turn, w);
+    let c = flowing(f, on, node);
     both(out, v, c);
 }

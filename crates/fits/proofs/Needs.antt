@@ -1,4 +1,4 @@
--- What `sum`, `product` and `turns` ask at each step, in the order in which the table is computed: of add, sub and conj each operand (Addable), of mul both (Factors), of neg,
+-- What `sum`, `product` and `turns` ask at each step, in the order in which the table is computed: of add, sub, conj and sixth each operand (Addable), of mul both (Factors), of neg,
 -- turn and square theirs. Assumes nothing.
 use mathlib.Core.Path.{_≡_, sym, subst}
 use Prim.Native.Nat.{ℕ}
@@ -6,19 +6,19 @@ use lib.Dec.{lit≤}
 use lib.IntN.{ℤ}
 use Rattle.lemmas.specs.Small.{Small}
 use Rattle.turn.specs.declared.Num.{Num}
-use Rattle.turn.specs.Number.{wholeN, oneN, _+N_, _*N_, turnN, conjN}
+use Rattle.turn.specs.Number.{wholeN, oneN, _+N_, _-N_, _*N_, turnN, conjN}
 use Rattle.turn.specs.Bounds.{Within}
 use Rattle.sum.specs.Bounds.{Addable, Negatable}
 use Rattle.product.specs.Bounds.{Squarable, Factors}
 use Rattle.turns.specs.Bounds.{Turnable}
-use Rattle.turn.proofs.Within.{within-weak, within-add}
+use Rattle.turn.proofs.Within.{within-weak, within-add, within-sub, within-turn}
 use Rattle.paper.specs.declared.Ohms.{Ohms}
 use Rattle.paper.specs.declared.Seq.{Seq}
 use Rattle.paper.specs.Fault.{numOf}
 use Rattle.paper.proofs.Row.{GOf, rowOf}
 use Rattle.paper.specs.Bounds.{AtMost, Plane, EachSeq, mostD, mostI, mostW}
-use Rattle.fits.proofs.Plane.{plane-num, plane-whole, plane-add, plane-mul, plane-conj, plane-turn, addable, negatable, turnable, squarable, factors}
-use Rattle.fits.proofs.Sizes.{Ranged, plane-one, G-plane, divisor-plane, above-plane, drop-plane, sum-within}
+use Rattle.fits.proofs.Plane.{plane-num, plane-whole, plane-add, plane-mul, plane-conj, addable, negatable, turnable, squarable, factors}
+use Rattle.fits.proofs.Sizes.{Ranged, plane-one, G-plane, divisor-plane, above-plane, drop-plane}
 
 -- ---- the divisor
 -- "G = Z0 + 3Zf"
@@ -124,28 +124,31 @@ for-voltage d p ua ub uc =
       drop0 = negatable (drop-plane uc (p .e0)) (lit≤ tt);
     }
 
--- ---- a phase that is shown: a and b are the two turns
-pub record ForShown (X : Seq) (a b : ℕ) : Type 0 where
-  pub turn1 : Turnable (X .s1)
-  pub turn2 : Turnable (X .s2)
-  pub first : Addable (X .s0)
-  pub turned1 : Addable (turnN a (X .s1))
-  pub sum : Addable (X .s0 +N turnN a (X .s1))
-  pub turned2 : Addable (turnN b (X .s2))
-  pub total : Turnable (X .s0 +N turnN a (X .s1) +N turnN b (X .s2))
+-- ---- what is shown: the sequences turned, then sums of them: u is the zero, v the positive and w the negative sequence, turned
+pub for-turns : {X : Seq} → EachSeq (Plane mostW) X → EachSeq Turnable X
+for-turns p = record { e1 = turnable (p .e1) (lit≤ tt); e2 = turnable (p .e2) (lit≤ tt); e0 = turnable (p .e0) (lit≤ tt) }
 
-pub for-shown : {X : Seq} → EachSeq (Plane mostW) X → (a b : ℕ) → ForShown X a b
-for-shown p a b =
-    let u = plane-turn a (p .e1) in
-    let v = plane-turn b (p .e2) in
+pub record ForShown (u v w : Num) : Type 0 where
+  pub zero : Addable u
+  pub first : Addable v
+  pub second : Addable w
+  pub between : Addable (w -N v)
+  pub sixth : Addable (turnN 2 (w -N v))
+  pub both : Addable (v +N w)
+  pub onward : Addable (turnN 8 v +N turnN 4 w)
+  pub rest : Addable (u -N (v +N w))
+
+pub for-shown : {u v w : Num} → Within mostW u → Within mostW v → Within mostW w → ForShown u v w
+for-shown p q r =
     record {
-      turn1 = turnable (p .e1) (lit≤ tt);
-      turn2 = turnable (p .e2) (lit≤ tt);
-      first = addable (p .e0) (lit≤ tt);
-      turned1 = within-weak (lit≤ tt) u;
-      sum = within-weak (lit≤ tt) (within-add (p .e0 .within) u);
-      turned2 = within-weak (lit≤ tt) v;
-      total = within-weak (lit≤ tt) (sum-within p a b);
+      zero = within-weak (lit≤ tt) p;
+      first = within-weak (lit≤ tt) q;
+      second = within-weak (lit≤ tt) r;
+      between = within-weak (lit≤ tt) (within-sub r q);
+      sixth = within-weak (lit≤ tt) (within-turn 2 (within-sub r q));
+      both = within-weak (lit≤ tt) (within-add q r);
+      onward = within-weak (lit≤ tt) (within-add (within-turn 8 q) (within-turn 4 r));
+      rest = within-weak (lit≤ tt) (within-sub p (within-add q r));
     }
 
 -- ---- what holds of a number holds of a result that is that number

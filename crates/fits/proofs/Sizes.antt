@@ -187,10 +187,7 @@ voltageOf-plane d p ua ub uc =
       e0 = plane-weak (lit≤ tt) (plane-neg (drop-plane uc (p .e0)));
     }
 
--- ---- what is shown: three numbers, two of them turned, and their sum turned
-pub sum-within : {b : ℕ} {X : Seq} → EachSeq (Plane b) X → (m n : ℕ) → Within (b + b + b) (X .s0 +N turnN m (X .s1) +N turnN n (X .s2))
-sum-within p m n = within-add (within-add (p .e0 .within) (plane-turn m (p .e1))) (plane-turn n (p .e2))
-
+-- ---- what is shown
 -- the last turn may be taken term by term, so the sum is no further from 0 after it
 pub shows-turned : (p sj sk : ℕ) (X : Seq) (i : ℕ)
     → shows p sj sk X i ≡ turnN (8 * p) (X .s0) +N turnN (8 * p + (8 * i + 11 * sj + sk)) (X .s1) +N turnN (8 * p + (4 * i + sj + 11 * sk)) (X .s2)

@@ -3,7 +3,7 @@ use Prim.Native.Nat.{_^_}
 use Rattle.turn.specs.declared.Num.{Num}
 use Rattle.turn.specs.Bounds.{Within}
 
--- a sum, a difference or a conjugate, which add two coordinates
+-- a sum, a difference, a conjugate or a sixth of a turn, which add two coordinates
 abbrev pub Addable : Num → Type 0
 Addable n = Within (2 ^ 61) n
 

@@ -9,21 +9,18 @@ use Rattle.paper.specs.Bounds.{Plane, EachSeq, mostW}
 use Rattle.put.specs.Put.{twelveOf}
 use Rattle.board.specs.Faulted.{numbersOf}
 use Rattle.board.proofs.Twelve.{twelve-phases}
-use Rattle.board.proofs.Small.{left-small, passed-small}
+use Rattle.board.proofs.Small.{left-small}
 use Rattle.board.proofs.board.Statement.{statement}
 use Rattle.board.proofs.board.Tie as tie
 
 left-requires : tie.Need-left-requires
 left-requires c κs = search needs
 
-passed-requires : tie.Need-passed-requires
-passed-requires c κs = search needs
-
 shown-requires : tie.Need-shown-requires
-shown-requires c κs = let s = c .before .before in let h = s .pre .1 in ((h .phase-to, h .turn-small, s .pre .3), subst (EachSeq (Plane mostW)) (sym (c .before .left .ensures)) (left-small h (s .pre .2)))
+shown-requires c κs = let s = c .before in let h = s .pre .1 in ((h .phase-to, h .turn-small, s .pre .3), subst (EachSeq (Plane mostW)) (sym (c .left .ensures)) (left-small h (s .pre .2)))
 
-shown-requires-2 : tie.Need-shown-requires-2
-shown-requires-2 c κs = let s = c .before .before .before in let h = s .pre .1 in ((h .phase-to, h .turn-small, s .pre .3), subst (EachSeq (Plane mostW)) (sym (c .before .passed .ensures)) (passed-small h (s .args .on) (s .args .node)))
+flowing-requires : tie.Need-flowing-requires
+flowing-requires c κs = let s = c .before .before in (s .pre .1, s .pre .3)
 
 both-requires : tie.Need-both-requires
 both-requires c κs = search needs
@@ -35,21 +32,12 @@ returns : tie.Need-returns
 unfolding numbersOf
 returns c =
     let d = c .before .before .before in
-    let s = d .before .before .before .before in
+    let v = d .before in
+    let s = v .before .before in
     let f = s .args .f in
     let showing : Seq → List (List ℤ) = phases (f .phase) (s .args .node .turn) (f .turn) in
-    let v = d .before .shown .ensures ∙ ap showing (d .before .before .before .left .ensures) in
-    let i = d .shown2 .ensures ∙ ap showing (d .before .before .passed .ensures) in
-    c .before .both .ensures ∙ (λ k. (ap twelveOf v ∙ twelve-phases _ _ _ _) k ++ (ap twelveOf i ∙ twelve-phases _ _ _ _) k)
+    let left = v .shown .ensures ∙ ap showing (v .before .left .ensures) in
+    c .before .both .ensures ∙ (λ k. (ap twelveOf left ∙ twelve-phases _ _ _ _) k ++ (ap twelveOf (d .flowing .ensures) ∙ twelve-phases _ _ _ _) k)
 
 pub board-spec : {M : Type 1} → statement M
-board-spec =
-    tie.close
-    (tie.spec
-    left-requires
-    passed-requires
-    shown-requires
-    shown-requires-2
-    both-requires
-    same-length
-    returns)
+board-spec = tie.close (tie.spec left-requires shown-requires flowing-requires both-requires same-length returns)

@@ -1,0 +1,151 @@
+/* Records judged one after the other (5 to 11), and their sums. */
+#ifndef BENCH_RECORDS_H
+#define BENCH_RECORDS_H
+#include "read.h"
+
+/* 9 */
+static inline int kind_wrong(size_t r, uint8_t kind, uint8_t clock) {
+    if ((kind < 2) != (r == 1))
+        return 1;
+    switch (kind) {
+    case 0: case 1: case 2: case 3:
+        return clock != 0;
+    case 4:
+        return clock > 11 || clock % 2 == 0;
+    case 5:
+        return clock > 11;
+    default:
+        return 1;
+    }
+}
+
+/* 10 */
+static inline int impedance_wrong(uint8_t kind, ohms z1, ohms z2, ohms z0, ohms zn) {
+    if (over(z1, MOST) || over(z2, MOST) || over(z0, MOST) || over(zn, MOST))
+        return 1;
+    switch (kind) {
+    case 0:
+        return is_zero(z1) || is_zero(z2);
+    case 1:
+        return is_zero(z1) || is_zero(z2) || !is_zero(z0) || !is_zero(zn);
+    case 2:
+        return !same(z1, z2) || !is_zero(zn);
+    case 5:
+        return !same(z1, z2) || !is_zero(z0) || !is_zero(zn);
+    default:
+        return !same(z1, z2);
+    }
+}
+
+/* The board's zero sequence, from its record and its feeder's. */
+static inline void zero_sequence(board *b, const board *up, size_t r, uint8_t kind, ohms z0, ohms zn) {
+    b->z0 = (ohms){0, 0};
+    b->start = 0;
+    if (kind == 0 || kind == 4) {
+        b->z0 = earthed(z0, zn);
+        b->start = (uint16_t)r;
+    } else if ((kind == 2 || kind == 3) && up->start) {
+        b->z0 = plus(up->z0, earthed(z0, zn)); /* a cable's zn is zero */
+        b->start = up->start;
+    }
+}
+
+/* Record r, behind r - 1 that are kept: the number of the first rule that it breaks, or 0 and its board. */
+static inline uint8_t judge(board *boards, size_t r, const uint8_t *s) {
+    static const board none;
+    if (s[0] != 'B' || s[1] != 'D')
+        return 5;
+    if (!formed(s + 2))
+        return 6;
+    board *b = &boards[r - 1];
+    b->own = label_at(s + 2);
+    if (find(boards, r - 1, b->own))
+        return 7;
+    b->feeder = r == 1 ? 0 : find(boards, r - 1, label_at(s + 14));
+    if (r == 1 ? memcmp(s + 14, "            ", 12) != 0 : b->feeder == 0)
+        return 8;
+    uint8_t kind = s[26], clock = s[27];
+    if (kind_wrong(r, kind, clock))
+        return 9;
+    ohms z1 = ohms_at(s + 28), z2 = ohms_at(s + 32), z0 = ohms_at(s + 36), zn = ohms_at(s + 40);
+    if (impedance_wrong(kind, z1, z2, z0, zn))
+        return 10;
+    const board *up = b->feeder ? &boards[b->feeder - 1] : &none;
+    b->z1 = plus(up->z1, z1);
+    b->z2 = plus(up->z2, z2);
+    b->turn = (uint16_t)(up->turn + clock);
+    zero_sequence(b, up, r, kind, z0, zn);
+    return over(b->z1, MOST) || over(b->z2, MOST) || over(b->z0, MOST) ? 11 : 0;
+}
+
+/* 1 to 11. Accepted: number 0. */
+static inline ranjupeli_answer read_network(network *w, const uint8_t *s, size_t len) {
+    if (len < HEAD)
+        return refused(1, 0, RANJUPELI_NETWORK, 0, len);
+    if (s[0] != 'H' || s[1] != 'D')
+        return refused(2, 0, RANJUPELI_NETWORK, 0, HEAD);
+    w->volts = u16_at(s + 2);
+    w->unit = u16_at(s + 4);
+    w->n = u16_at(s + 6);
+    if (w->volts < 1 || w->volts > 1000 || w->unit < 10 || w->unit > 1000 || w->n < 1 || w->n > BOARDS)
+        return refused(3, 0, RANJUPELI_NETWORK, 0, HEAD);
+    if (len != HEAD + RECORD * (size_t)w->n)
+        return refused(4, 0, RANJUPELI_NETWORK, 0, HEAD);
+    for (size_t r = 1; r <= w->n; r++) {
+        size_t start = HEAD + RECORD * (r - 1);
+        uint8_t number = judge(w->boards, r, s + start);
+        if (number)
+            return refused(number, (uint16_t)r, RANJUPELI_NETWORK, start, RECORD);
+    }
+    return refused(0, 0, 0, 0, 0);
+}
+
+/* 12 to 19. Accepted: number 0. */
+static inline ranjupeli_answer read_fault(fault *f, const network *w, const uint8_t *s, size_t len, int room) {
+    if (len != FAULT)
+        return refused(12, 0, RANJUPELI_FAULT, 0, len);
+    if (s[0] != 'F' || s[1] != 'T')
+        return refused(13, 0, RANJUPELI_FAULT, 0, FAULT);
+    f->k = find(w->boards, w->n, label_at(s + 2));
+    if (!f->k)
+        return refused(14, 0, RANJUPELI_FAULT, 0, FAULT);
+    f->kind = s[14];
+    f->phase = s[15];
+    if (f->kind > 3)
+        return refused(15, 0, RANJUPELI_FAULT, 0, FAULT);
+    if (f->phase > 2 || (f->kind == 0 && f->phase != 0))
+        return refused(16, 0, RANJUPELI_FAULT, 0, FAULT);
+    f->zf = ohms_at(s + 16);
+    if (over(f->zf, MOST_ZF))
+        return refused(17, 0, RANJUPELI_FAULT, 0, FAULT);
+    if ((f->kind == 1 || f->kind == 3) && !w->boards[f->k - 1].start)
+        return refused(18, f->k, RANJUPELI_FAULT, 0, FAULT);
+    if (!room)
+        return refused(19, 0, RANJUPELI_FAULT, 0, 0);
+    return refused(0, 0, 0, 0, 0);
+}
+
+static inline ranjupeli_answer accepted(const network *w, const fault *f, uint64_t amps) {
+    return (ranjupeli_answer){.amps = amps, .place = f->k, .n = w->n, .start = HEAD + RECORD * (f->k - 1u), .len = RECORD};
+}
+
+/* The records on the chain of board k. */
+static inline void mark_chain(uint8_t *on, const network *w, uint16_t k) {
+    memset(on, 0, w->n);
+    for (; k; k = w->boards[k - 1].feeder)
+        on[k - 1] = 1;
+}
+
+/* The impedances that a board shares with the faulted one: its own sums on the chain, else its feeder's share; zero sequence only where both started in one record. */
+typedef struct {
+    ohms z1, z2, z0;
+} shared;
+
+static inline shared share(const board *b, int on, const shared *shares, uint16_t start) {
+    static const shared none;
+    shared s = on ? (shared){b->z1, b->z2, b->z0} : b->feeder ? shares[b->feeder - 1] : none;
+    if (b->start != start)
+        s.z0 = (ohms){0, 0};
+    return s;
+}
+#endif

@@ -1,0 +1,7 @@
+#ifndef RANJUPELI_STRING_H
+#define RANJUPELI_STRING_H
+#include <stddef.h>
+void *memcpy(void *restrict to, const void *restrict from, size_t n);
+void *memset(void *to, int byte, size_t n);
+int memcmp(const void *a, const void *b, size_t n);
+#endif

@@ -1,0 +1,39 @@
+//! The program `short` once more, in Rust over the archive: boards NETWORK < FAULT prints the same text.
+use std::io::Read;
+
+// A label without its closing spaces.
+fn name(label: &[u8]) -> String {
+    String::from_utf8_lossy(label).trim_end_matches(' ').to_string()
+}
+
+fn print_phases(before: &str, what: char, x: &[i64]) {
+    for (phase, t) in ['a', 'b', 'c'].iter().zip(x.chunks(4)) {
+        println!("{before}{what} {phase} {} {} {} {}", t[0], t[1], t[2], t[3]);
+    }
+}
+
+fn print_answer(network: &[u8], fault: &[u8], a: ranjupeli::Answer, x: &[i64]) {
+    let record = a.shown(network, fault);
+    println!("FAULT {} {} {} {}", name(&record[2..14]), fault[14], fault[15], a.amps);
+    println!("D {}", x[0]);
+    print_phases("", 'I', &x[1..13]);
+    for (record, x) in network[8..].chunks(44).zip(x[13..].chunks(24)) {
+        let label = name(&record[2..14]) + " ";
+        print_phases(&label, 'V', &x[..12]);
+        print_phases(&label, 'I', &x[12..]);
+    }
+}
+
+fn main() {
+    // a missing file counts as empty
+    let network = std::env::args().nth(1).and_then(|file| std::fs::read(file).ok()).unwrap_or_default();
+    let mut fault = Vec::new();
+    std::io::stdin().take(21).read_to_end(&mut fault).unwrap_or_default();
+    let mut numbers = vec![0; ranjupeli::MOST];
+    let a = ranjupeli::solve(&network, &fault, &mut numbers);
+    if a.number == 0 {
+        print_answer(&network, &fault, a, &numbers);
+    } else {
+        println!("REFUSED {} {}", a.number, a.place);
+    }
+}

@@ -1,0 +1,55 @@
+// `solve` for programs in C and Rust: the one function of the archive, and its answer as C lays it out.
+ghost use mathlib.Core.Path.{_≡_};
+ghost use lib.ListN.{length};
+ghost use Rattle.paper.specs.Answer.{verdict, written};
+ghost use Rattle.ranjupeli.specs.Reply.{ownerOf, replyOf};
+use paper::Answer;
+use paper::Lent;
+
+// An answer without an enum and without a struct inside. bindings/ranjupeli.h says the same fields in the same order.
+#[repr(C)]
+pub struct Reply {
+    pub amps: u64,
+    pub start: usize,
+    pub len: usize,
+    pub place: u16,
+    pub n: u16,
+    pub number: u8,
+    pub owner: u8,
+}
+
+// Whose bytes the part is of: 0 the network's, 1 the fault's.
+fn owner(whose: Lent) -> u8
+    ensures { λ r. ⌜ r ≡ ownerOf whose ⌝ }
+{
+    match whose {
+        Lent::NetworkBytes => 0,
+        Lent::FaultBytes => 1,
+    }
+}
+
+fn laid_out(a: Answer) -> Reply
+    ensures { λ r. ⌜ r ≡ replyOf a ⌝ }
+{
+    let part = a.part;
+    let whose = part.whose;
+    Reply {
+        amps: a.amps,
+        start: part.start,
+        len: part.len,
+        place: a.place,
+        n: a.n,
+        number: a.number,
+        owner: owner(whose),
+    }
+}
+
+// Any network, any fault, any buffer: nothing is asked of the caller but that what it lends is there.
+#[no_mangle]
+pub extern "C" fn ranjupeli_solve(net: &[u8], flt: &[u8], buffer: &mut [i64]) -> Reply
+    ensures { λ r. ⌜ r ≡ replyOf (verdict (now (net .entry)) (now (flt .entry)) (length (now (buffer .entry)))) ⌝ }
+    ensures { λ _. ⌜ now (buffer .exit) ≡ written (now (net .entry)) (now (flt .entry)) (now (buffer .entry)) ⌝ }
+{
+    let a = solve::solve(net, flt, buffer);
+    laid_out(a)
+}

@@ -1,0 +1,43 @@
+-- `stream::put_part` meets its contract: piece behind piece. Assumes nothing.
+use borrow.Author.Needs.{needs}
+use Rattle.decimal.proofs.Writes.{left-by, left-then, left-last, room-front}
+use Rattle.stream.proofs.Pieces.{part-pieces}
+use Rattle.stream.proofs.put_part.Statement.{statement}
+use Rattle.stream.proofs.put_part.Tie as tie
+
+whose-requires : tie.Need-whose-requires
+whose-requires c κs = search needs
+
+put-four-requires : tie.Need-put-four-requires
+put-four-requires c κs =
+    let s = c .before .before .before in
+    room-front _ ((left-by (part-pieces (s .args .part) (c .before .whose .ensures)) (s .pre)) .room)
+
+put-four-requires-2 : tie.Need-put-four-requires-2
+put-four-requires-2 c κs =
+    let s = c .before .before .before .before .before .before .before in
+    room-front _ (left-then (left-by (part-pieces (s .args .part) (c .before .before .before .before .before .whose .ensures)) (s .pre)) (c .before .before .before .put-four .ensures) .room)
+
+put-four-requires-3 : tie.Need-put-four-requires-3
+put-four-requires-3 c κs =
+    let s = c .before .before .before .before .before .before .before .before .before .before .before in
+    left-then (left-then (left-by (part-pieces (s .args .part) (c .before .before .before .before .before .before .before .before .before .whose .ensures)) (s .pre)) (c .before .before .before .before .before .before .before .put-four .ensures)) (c .before .before .before .put-four2 .ensures) .room
+
+same-length : tie.Need-same-length
+same-length c = search needs
+
+returns : tie.Need-returns
+returns c =
+    let s = c .before .before .before .before .before .before .before .before .before .before .before .before .before .before in
+    left-last (left-then (left-then (left-by (part-pieces (s .args .part) (c .before .before .before .before .before .before .before .before .before .before .before .before .whose .ensures)) (s .pre)) (c .before .before .before .before .before .before .before .before .before .before .put-four .ensures)) (c .before .before .before .before .before .before .put-four2 .ensures)) (c .before .before .put-four3 .ensures)
+
+pub put-part-spec : {M : Type 1} → statement M
+put-part-spec =
+    tie.close
+    (tie.spec
+    whose-requires
+    put-four-requires
+    put-four-requires-2
+    put-four-requires-3
+    same-length
+    returns)

@@ -1,0 +1,2 @@
+-- the bytes of a stream of cases and their answers
+pub mod Layout

@@ -1,0 +1,182 @@
+//! A second hand's reading of the paper, to test the proved program from outside. See README.md.
+
+mod compare;
+mod edges;
+mod faults;
+mod field;
+mod figures;
+mod judge;
+mod laws;
+mod make;
+mod paper;
+mod plan;
+mod process;
+mod ring;
+mod rng;
+mod solve;
+mod stream;
+mod table;
+mod tally;
+
+use std::fs::File;
+use std::io::{self, BufReader, BufWriter, Read, Write};
+use std::process::ExitCode;
+use std::time::Instant;
+
+const USAGE: &str = "outside make SEED COUNT > stream
+outside answer [BUDGET] < stream > answers
+outside compare SEED COUNT ANSWERS|-
+outside run SEED COUNT -- COMMAND ARGS..
+outside cuts SEED COUNT -- COMMAND ARGS..
+outside faults SEED COUNT
+outside figures
+outside edges SEED COUNT
+outside replay HEXNET HEXFAULT ROOM [-- COMMAND ARGS..]   (- for no bytes)";
+
+/// Ok: all agree. Err: what does not; an empty one is a wrong command line.
+type Outcome = Result<(), String>;
+
+fn main() -> ExitCode {
+    let args: Vec<String> = std::env::args().skip(1).collect();
+    match command(&args) {
+        Ok(()) => ExitCode::SUCCESS,
+        Err(what) if what.is_empty() => {
+            eprintln!("{USAGE}");
+            ExitCode::from(2)
+        }
+        Err(what) => {
+            println!("{what}");
+            ExitCode::from(1)
+        }
+    }
+}
+
+fn number(text: &str) -> Result<u64, String> {
+    text.parse().map_err(|_| String::new())
+}
+
+fn command(args: &[String]) -> Outcome {
+    let words: Vec<&str> = args.iter().map(String::as_str).collect();
+    match words[..] {
+        ["make", seed, count] => make_stream(number(seed)?, number(count)?),
+        ["answer"] => serve(u64::MAX),
+        ["answer", budget] => serve(number(budget)?),
+        ["compare", seed, count, from] => compare_file(number(seed)?, number(count)?, from),
+        ["run", seed, count, "--", _, ..] => run(number(seed)?, number(count)?, &args[4..]),
+        ["cuts", seed, count, "--", _, ..] => cuts(number(seed)?, number(count)?, &args[4..]),
+        ["faults", seed, count] => all(faults::all(number(seed)?, number(count)?)),
+        ["figures"] => all(figures::all()),
+        ["edges", seed, count] => edges(number(seed)?, number(count)?),
+        ["replay", net, fault, room] => replay(net, fault, room, &[]),
+        ["replay", net, fault, room, "--", _, ..] => replay(net, fault, room, &args[5..]),
+        _ => Err(String::new()),
+    }
+}
+
+fn all(agree: bool) -> Outcome {
+    if agree {
+        return Ok(());
+    }
+    Err("not all agree".into())
+}
+
+fn told(e: io::Error) -> String {
+    e.to_string()
+}
+
+fn make_stream(seed: u64, count: u64) -> Outcome {
+    let mut out = BufWriter::new(io::stdout().lock());
+    for index in 0..count {
+        stream::write_case(&mut out, &make::case(seed, index)).map_err(told)?;
+    }
+    out.flush().map_err(told)
+}
+
+fn serve(budget: u64) -> Outcome {
+    let mut from = BufReader::new(io::stdin().lock());
+    let mut out = BufWriter::with_capacity(1 << 16, io::stdout().lock());
+    stream::serve(&mut from, &mut out, budget).map_err(told)?;
+    out.flush().map_err(told)
+}
+
+fn compare_file(seed: u64, count: u64, from: &str) -> Outcome {
+    let mut answers: Box<dyn Read> = match from {
+        "-" => Box::new(BufReader::new(io::stdin().lock())),
+        path => Box::new(BufReader::new(File::open(path).map_err(told)?)),
+    };
+    let mut tally = tally::Tally::default();
+    let cases = (0..count).map(|i| (i, make::case(seed, i)));
+    let result = process::compare(&mut answers, cases, &mut tally);
+    tally.print();
+    let (answered, mark) = result?;
+    if answered < count || &mark != b"END\n" {
+        let mark = String::from_utf8_lossy(&mark).into_owned();
+        return Err(format!("{mark:?} after {answered} of {count} cases"));
+    }
+    println!("{count} cases agree");
+    Ok(())
+}
+
+fn run(seed: u64, count: u64, command: &[String]) -> Outcome {
+    let began = Instant::now();
+    let mut tally = tally::Tally::default();
+    let result = process::run(seed, count, command, &mut tally);
+    tally.print();
+    let processes = result?;
+    let seconds = began.elapsed().as_secs_f64();
+    println!("{count} cases agree, {processes} processes, {seconds:.1} s");
+    Ok(())
+}
+
+fn cuts(seed: u64, count: u64, command: &[String]) -> Outcome {
+    let mut tally = tally::Tally::default();
+    process::cuts(seed, count, command, &mut tally)?;
+    println!("{count} cut streams end as they should");
+    Ok(())
+}
+
+/// What the maker's cases meet, by this program's own judgement; no other program is run.
+fn edges(seed: u64, count: u64) -> Outcome {
+    let mut tally = tally::Tally::default();
+    for index in 0..count {
+        let case = make::case(seed, index);
+        let due = stream::answer(&paper::Paper::AS_WRITTEN, &case);
+        compare::check(index, &case, &due, &mut tally)
+            .map_err(|what| compare::report(index, &case, &what))?;
+    }
+    tally.print();
+    tally.print_edges();
+    Ok(())
+}
+
+fn unhex(text: &str) -> Result<Vec<u8>, String> {
+    let digits = if text == "-" { "" } else { text };
+    if digits.len() % 2 != 0 || !digits.is_ascii() {
+        return Err(String::new());
+    }
+    (0..digits.len() / 2)
+        .map(|i| u8::from_str_radix(&digits[2 * i..2 * i + 2], 16).map_err(|_| String::new()))
+        .collect()
+}
+
+fn replay(net: &str, fault: &str, room: &str, command: &[String]) -> Outcome {
+    let case = make::Case {
+        room: number(room)? as usize,
+        net: unhex(net)?,
+        fault: unhex(fault)?,
+        note: "replayed".into(),
+    };
+    let due = stream::answer(&paper::Paper::AS_WRITTEN, &case);
+    println!("{:?}", due.verdict);
+    print!("{}", figures::text(&case, &due));
+    if due.verdict.number == 0 {
+        laws::check(&case.net, &case.fault, &due.buffer, due.verdict.amps)?;
+        solve::check(&case.net, &case.fault, &due.buffer)?;
+        println!("laws hold, and give these numbers only");
+    }
+    if !command.is_empty() {
+        process::one(case, command, &mut tally::Tally::default())?;
+        println!("the program agrees");
+    }
+    Ok(())
+}

@@ -1,0 +1,79 @@
+//! Cases from a seed. The maker has no opinion on what is right: it only aims, and `judge` decides.
+
+mod aim;
+mod damage;
+pub mod labels;
+pub mod model;
+mod sound;
+
+use self::model::Draft;
+use crate::rng::Rng;
+
+pub struct Case {
+    pub room: usize,
+    pub net: Vec<u8>,
+    pub fault: Vec<u8>,
+    /// What the maker had in mind; printed with a mismatch.
+    pub note: String,
+}
+
+pub const MOST_NET: usize = 16_400;
+pub const MOST_FAULT: usize = 64;
+pub const MOST_ROOM: usize = 6_400;
+
+/// Case `index` of `seed`, without making those before it.
+pub fn case(seed: u64, index: u64) -> Case {
+    let mut rng = Rng::for_case(seed, index);
+    let mut case = mixed(&mut rng);
+    case.net.truncate(MOST_NET);
+    case.fault.truncate(MOST_FAULT);
+    case.room = case.room.min(MOST_ROOM);
+    case
+}
+
+fn mixed(rng: &mut Rng) -> Case {
+    match rng.below(1000) {
+        0..=559 => finish(sound::draft(rng), "sound"),
+        560..=789 => broken(rng, 1),
+        790..=879 => broken(rng, 2),
+        880..=899 => broken(rng, 3),
+        900..=924 => damage::lengths(rng),
+        925..=969 => damage::one_bit(rng),
+        970..=979 => damage::moved_records(rng),
+        980..=989 => damage::odd_field(rng),
+        _ => damage::noise(rng),
+    }
+}
+
+pub fn finish(draft: Draft, note: &str) -> Case {
+    Case {
+        room: draft.room,
+        net: draft.net_bytes(),
+        fault: draft.fault_bytes(),
+        note: note.into(),
+    }
+}
+
+/// One to three rules broken at once; the second is often the next rule, where order shows most.
+fn broken(rng: &mut Rng, count: usize) -> Case {
+    let mut draft = sound::draft(rng);
+    let mut note = String::from("broken");
+    let mut last = 0;
+    for _ in 0..count {
+        let near = last > 0 && rng.coin();
+        let rule = if near {
+            last % 19 + 1
+        } else {
+            rng.range(1, 19)
+        };
+        aim::break_rule(rng, &mut draft, rule);
+        note += &format!(" {rule}");
+        last = rule;
+    }
+    // A refusal shows what it must not write in a few numbers as well as in many.
+    if draft.room > 60 && !note.contains("19") && rng.permille(800) {
+        draft.room = rng.below(60);
+        note += " small room";
+    }
+    finish(draft, &note)
+}

@@ -1,0 +1,263 @@
+//! Networks and faults that keep every rule, of every shape, up to the brim of every range.
+
+use super::labels;
+use super::model::{Draft, Rec, Sums};
+use crate::rng::Rng;
+
+/// How large the impedances of a network are.
+#[derive(Clone, Copy)]
+enum Size {
+    Zero,
+    Tiny,
+    Small,
+    Share,
+    Brim,
+}
+
+/// A part from 0 to `most`.
+fn part(rng: &mut Rng, size: Size, most: u32) -> u32 {
+    let most = most as usize;
+    let drawn = match size {
+        Size::Zero => 0,
+        Size::Tiny => rng.below(4),
+        Size::Small => rng.below(41),
+        Size::Share => rng.below(most / 4 + 1),
+        Size::Brim => match rng.below(3) {
+            0 => most,
+            1 => 0,
+            _ => rng.range(0, most),
+        },
+    };
+    drawn.min(most) as u32
+}
+
+fn boards(rng: &mut Rng) -> usize {
+    match rng.below(1000) {
+        0..=3 => 256,
+        4..=7 => rng.range(61, 255),
+        8..=30 => rng.range(13, 60),
+        31..=120 => 1,
+        _ => rng.range(2, 12),
+    }
+}
+
+/// Chains, stars, bushes, combs, pairs.
+fn feeder(rng: &mut Rng, shape: usize, r: usize) -> usize {
+    match shape {
+        0 => r - 1,
+        1 => 0,
+        2 => (r - 1) / 2,
+        3 => r - 1 - rng.below(r.min(3)),
+        4 => r - 1 - usize::from(r > 1 && r % 2 == 1),
+        _ => rng.below(r),
+    }
+}
+
+fn kind(rng: &mut Rng, mix: usize) -> u8 {
+    match mix {
+        0 => 2,
+        1 => rng.pick(&[2, 2, 2, 3]),
+        2 => rng.pick(&[4, 5]),
+        3 => rng.pick(&[2, 3, 4]),
+        _ => rng.pick(&[2, 2, 3, 3, 4, 4, 5]),
+    }
+}
+
+fn clock(rng: &mut Rng, kind: u8) -> u8 {
+    match kind {
+        4 => 2 * rng.below(6) as u8 + 1,
+        5 => rng.below(12) as u8,
+        _ => 0,
+    }
+}
+
+/// z0 and zn with z0 + 3 zn within `most`; either may take its share first.
+fn earth_term(rng: &mut Rng, size: Size, most: u32, neutral: bool) -> (u32, u32) {
+    if !neutral {
+        return (part(rng, size, most), 0);
+    }
+    if rng.coin() {
+        let zn = part(rng, size, most / 3);
+        return (part(rng, size, most - 3 * zn), zn);
+    }
+    let z0 = part(rng, size, most);
+    (z0, part(rng, size, (most - z0) / 3))
+}
+
+/// Zero-sequence parts of a record below sums with an earth return, or free where none counts.
+fn zero_parts(rng: &mut Rng, size: Size, kind: u8, above: &Sums) -> [u32; 4] {
+    let mut out = [0; 4];
+    if kind == 1 || kind == 5 {
+        return out;
+    }
+    for i in 0..2 {
+        let (z0, zn) = match (kind, above.1) {
+            (0 | 4, _) => earth_term(rng, size, 4095, true),
+            (_, Some(e)) => earth_term(rng, size, 4095 - e[i], kind == 3),
+            (2, None) => (part(rng, size, 4095), 0),
+            _ => (part(rng, size, 4095), part(rng, size, 4095)),
+        };
+        out[i] = z0;
+        out[2 + i] = zn;
+    }
+    out
+}
+
+/// A source's impedance: not zero.
+fn source_pair(rng: &mut Rng, size: Size) -> [u32; 2] {
+    let mut pair = [part(rng, size, 4095), part(rng, size, 4095)];
+    if pair == [0, 0] {
+        pair[rng.below(2)] = rng.pick(&[1, 1, 20, 4095]);
+    }
+    pair
+}
+
+fn impedances(rng: &mut Rng, size: Size, kind: u8, above: &Sums) -> [u16; 8] {
+    let s = above.0;
+    let (a, b) = if kind < 2 {
+        let first = source_pair(rng, size);
+        let again = if rng.coin() {
+            first
+        } else {
+            source_pair(rng, size)
+        };
+        (first, again)
+    } else {
+        // z1 = z2 goes into both sums: the fuller one decides.
+        let left = |i: usize| 4095 - s[i].max(s[i + 2]);
+        let both = [part(rng, size, left(0)), part(rng, size, left(1))];
+        (both, both)
+    };
+    let zero = zero_parts(rng, size, kind, above);
+    let all = [a[0], a[1], b[0], b[1], zero[0], zero[1], zero[2], zero[3]];
+    all.map(|x| x as u16)
+}
+
+fn size(rng: &mut Rng) -> Size {
+    rng.pick(&[
+        Size::Zero,
+        Size::Tiny,
+        Size::Small,
+        Size::Small,
+        Size::Share,
+        Size::Share,
+        Size::Brim,
+        Size::Brim,
+    ])
+}
+
+fn head_value(rng: &mut Rng, least: usize, most: usize, usual: usize) -> u16 {
+    let drawn = match rng.below(8) {
+        0 => least,
+        1 => most,
+        2 | 3 => usual,
+        _ => rng.range(least, most),
+    };
+    drawn as u16
+}
+
+fn empty(rng: &mut Rng, count: usize) -> Draft {
+    Draft {
+        mark: *b"HD",
+        volts: head_value(rng, 1, 1000, 230),
+        unit: head_value(rng, 10, 1000, 1000),
+        count: count as u16,
+        recs: Vec::with_capacity(count),
+        up: Vec::with_capacity(count),
+        net_length: None,
+        fault_mark: *b"FT",
+        fault_label: [b' '; 12],
+        fault_kind: 0,
+        phase: 0,
+        zf: [0, 0],
+        fault_length: None,
+        room: 0,
+        filler: rng.byte(),
+    }
+}
+
+fn network(rng: &mut Rng) -> Draft {
+    let count = boards(rng);
+    let mut draft = empty(rng, count);
+    let names = labels::distinct(rng, count);
+    let (mut shape, mix, usual) = (rng.below(7), rng.below(6), size(rng));
+    if count == 256 && rng.coin() {
+        // The deepest chain there can be.
+        shape = 0;
+    }
+    let mut sums: Vec<Sums> = Vec::with_capacity(count);
+    for r in 0..count {
+        let up = (r > 0).then(|| feeder(rng, shape, r));
+        let kind = match up {
+            Some(_) => kind(rng, mix),
+            None => u8::from(rng.permille(250)),
+        };
+        let size = if rng.permille(100) { size(rng) } else { usual };
+        let above = up.map_or(Sums::default(), |u| sums[u]);
+        draft.recs.push(Rec {
+            mark: *b"BD",
+            label: names[r],
+            feeder: up.map_or([b' '; 12], |u| names[u]),
+            kind,
+            clock: clock(rng, kind),
+            z: impedances(rng, size, kind, &above),
+        });
+        draft.up.push(up);
+        sums.push(above.with(&draft.recs[r]));
+    }
+    draft
+}
+
+/// A board for the fault: the last and the first more often than others.
+fn board(rng: &mut Rng, count: usize) -> usize {
+    match rng.below(4) {
+        0 => count - 1,
+        1 if rng.coin() => 0,
+        _ => rng.below(count),
+    }
+}
+
+fn fault(rng: &mut Rng, draft: &mut Draft) {
+    let count = draft.recs.len();
+    let mut k = board(rng, count);
+    let mut kind = rng.below(4) as u8;
+    let earthed = |r: usize| draft.sums(r).1.is_some();
+    if kind % 2 == 1 && !earthed(k) {
+        // Kinds 1 and 3 want an earth return: the next board that has one, else another kind.
+        let next = (1..count).map(|i| (k + i) % count).find(|&r| earthed(r));
+        kind -= u8::from(next.is_none());
+        k = next.unwrap_or(k);
+    }
+    let zf = |rng: &mut Rng| match rng.below(10) {
+        0..=3 => 0,
+        4 | 5 => 1365,
+        6 => rng.below(10) as u16,
+        _ => rng.below(1366) as u16,
+    };
+    draft.fault_kind = kind;
+    draft.phase = if kind == 0 { 0 } else { rng.below(3) as u8 };
+    draft.zf = if rng.permille(300) {
+        [0, 0]
+    } else {
+        [zf(rng), zf(rng)]
+    };
+    draft.fault_label = draft.recs[k].label;
+}
+
+/// Exactly what the answer needs, a few more, now and then far more.
+fn room(rng: &mut Rng, count: usize) -> usize {
+    let need = 13 + 24 * count;
+    match rng.below(100) {
+        0..=54 => need,
+        55..=84 => need + rng.range(1, 6),
+        85..=97 => need + rng.pick(&[1, 23, 24, 25]),
+        _ => need + rng.below(6400 - need + 1),
+    }
+}
+
+pub fn draft(rng: &mut Rng) -> Draft {
+    let mut draft = network(rng);
+    fault(rng, &mut draft);
+    draft.room = room(rng, draft.recs.len());
+    draft
+}

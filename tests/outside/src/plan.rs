@@ -1,0 +1,83 @@
+//! A second reading of accepted bytes, for `laws` and `solve` only: it shares nothing with `judge`.
+//!
+//! Labels are looked for from the front; turn and earth return are carried from feeder to board.
+
+use crate::ring::Num;
+
+pub struct Record {
+    pub up: Option<usize>,
+    pub kind: u8,
+    pub clock: i64,
+    /// The impedance in zero, positive and negative sequence (zero: the kind table's term).
+    pub z: [Num; 3],
+    pub earthed: bool,
+    /// The clocks summed down to here.
+    pub turn: i64,
+}
+
+pub struct Plan {
+    pub volts: u128,
+    pub unit: u128,
+    pub records: Vec<Record>,
+    pub k: usize,
+    pub kind: u8,
+    pub phase: usize,
+    pub zf: Num,
+}
+
+fn pair(b: &[u8]) -> Num {
+    let part = |i: usize| i128::from(b[i]) + 256 * i128::from(b[i + 1]);
+    Num::ohms(part(0), part(2))
+}
+
+fn place_of(net: &[u8], label: &[u8]) -> Option<usize> {
+    net[8..].chunks(44).position(|b| &b[2..14] == label)
+}
+
+/// None where the bytes are none that could have been accepted.
+pub fn plan(net: &[u8], fault: &[u8]) -> Option<Plan> {
+    if net.len() < 52 || net.len() % 44 != 8 || fault.len() != 20 {
+        return None;
+    }
+    let mut records: Vec<Record> = Vec::new();
+    for b in net[8..].chunks(44) {
+        let up = place_of(net, &b[14..26]);
+        if up.map_or(!records.is_empty(), |u| u >= records.len()) {
+            return None;
+        }
+        let record = record(b, up, &records);
+        records.push(record);
+    }
+    let word = |i: usize| u128::from(net[i]) + 256 * u128::from(net[i + 1]);
+    Some(Plan {
+        volts: word(2),
+        unit: word(4),
+        records,
+        k: place_of(net, &fault[2..14])?,
+        kind: fault[14],
+        phase: usize::from(fault[15]),
+        zf: pair(&fault[16..]),
+    })
+}
+
+fn record(b: &[u8], up: Option<usize>, before: &[Record]) -> Record {
+    let (kind, clock) = (b[26], i64::from(b[27]));
+    let neutral = match kind {
+        2 => Num::ZERO,
+        _ => pair(&b[40..]).times(3),
+    };
+    let feeder = up.map(|u| &before[u]);
+    let earthed = match kind {
+        0 | 4 => true,
+        1 | 5 => false,
+        _ => feeder.is_some_and(|f| f.earthed),
+    };
+    Record {
+        up,
+        kind,
+        clock,
+        z: [pair(&b[36..]) + neutral, pair(&b[28..]), pair(&b[32..])],
+        earthed,
+        turn: clock + feeder.map_or(0, |f| f.turn),
+    }
+}

@@ -1,0 +1,166 @@
+//! Runs another program as `batch`: feeds cases, reads answers, compares.
+
+use crate::compare::{check, report};
+use crate::make::{self, Case};
+use crate::stream::{read_reply, write_case, Reply};
+use crate::tally::Tally;
+use std::io::{BufReader, Read, Write};
+use std::process::{Child, ChildStdout, Command, Stdio};
+use std::thread::JoinHandle;
+
+/// Cases that one process is given at most.
+const CHUNK: u64 = 4_000;
+
+/// Compares the answers on `from` with cases `first` to `end` - 1; the number answered, and the
+/// mark that ended them.
+pub fn compare(
+    from: &mut impl Read,
+    cases: impl Iterator<Item = (u64, Case)>,
+    tally: &mut Tally,
+) -> Result<(u64, [u8; 4]), String> {
+    let mut answered = 0;
+    for (index, case) in cases {
+        let told = |what: String| report(index, &case, &what);
+        let reply = read_reply(from).map_err(|e| told(e.to_string()))?;
+        match reply {
+            Reply::Answer(got) => check(index, &case, &got, tally).map_err(told)?,
+            Reply::Mark(mark) => return ended(from, answered, mark),
+            Reply::Broken(what) => return Err(told(what)),
+        }
+        answered += 1;
+    }
+    match read_reply(from).map_err(|e| e.to_string())? {
+        Reply::Mark(mark) => ended(from, answered, mark),
+        Reply::Answer(_) => Err("an answer too many".into()),
+        Reply::Broken(what) => Err(format!("after the last answer: {what}")),
+    }
+}
+
+/// Nothing may follow the mark.
+fn ended(from: &mut impl Read, n: u64, mark: [u8; 4]) -> Result<(u64, [u8; 4]), String> {
+    let mut rest = Vec::new();
+    from.read_to_end(&mut rest).map_err(|e| e.to_string())?;
+    if rest.is_empty() {
+        return Ok((n, mark));
+    }
+    Err(format!("{} bytes after the closing mark", rest.len()))
+}
+
+struct Batch {
+    child: Child,
+    answers: BufReader<ChildStdout>,
+    feeder: JoinHandle<()>,
+}
+
+/// Starts the command and feeds it from a thread, so that neither side waits on a full pipe.
+fn start(command: &[String], stream: Vec<u8>) -> Result<Batch, String> {
+    let mut child = Command::new(&command[0])
+        .args(&command[1..])
+        .stdin(Stdio::piped())
+        .stdout(Stdio::piped())
+        .spawn()
+        .map_err(|e| format!("{}: {e}", command[0]))?;
+    let mut input = child.stdin.take().ok_or("no standard input")?;
+    let output = child.stdout.take().ok_or("no standard output")?;
+    // A program whose budget is used up stops reading: that is no error here.
+    let feeder = std::thread::spawn(move || drop(input.write_all(&stream)));
+    Ok(Batch {
+        child,
+        answers: BufReader::with_capacity(1 << 16, output),
+        feeder,
+    })
+}
+
+fn stop(mut batch: Batch) -> Result<(), String> {
+    drop(batch.answers);
+    let status = batch.child.wait().map_err(|e| e.to_string())?;
+    drop(batch.feeder.join());
+    if status.success() {
+        return Ok(());
+    }
+    Err(format!("the program ended with {status}"))
+}
+
+pub fn stream_of(seed: u64, first: u64, end: u64) -> Vec<u8> {
+    let mut bytes = Vec::new();
+    for index in first..end {
+        write_case(&mut bytes, &make::case(seed, index)).expect("memory takes all");
+    }
+    bytes
+}
+
+/// One process, cases `first` to `end` - 1; how many it answered.
+fn chunk(seed: u64, first: u64, end: u64, cmd: &[String], t: &mut Tally) -> Result<u64, String> {
+    let mut batch = start(cmd, stream_of(seed, first, end))?;
+    let cases = (first..end).map(|i| (i, make::case(seed, i)));
+    let result = compare(&mut batch.answers, cases, t);
+    if let Err(what) = result {
+        // The process may still be writing; it is ours, so it is ended by its own handle.
+        drop(batch.child.kill());
+        let status = stop(batch).err().unwrap_or_default();
+        return Err(format!("{status}\n{what}"));
+    }
+    stop(batch)?;
+    let (answered, mark) = result?;
+    match &mark {
+        b"END\n" if answered == end - first => Ok(answered),
+        b"BUDG" if answered > 0 => Ok(answered),
+        _ => Err(format!(
+            "{:?} after {answered} of {} cases",
+            String::from_utf8_lossy(&mark),
+            end - first
+        )),
+    }
+}
+
+pub fn run(seed: u64, count: u64, command: &[String], tally: &mut Tally) -> Result<u64, String> {
+    let (mut next, mut processes, mut size) = (0, 0, CHUNK);
+    while next < count {
+        let end = count.min(next + size);
+        let answered = chunk(seed, next, end, command, tally)?;
+        // A budget met once is kept to afterwards.
+        if answered < end - next {
+            size = answered;
+        }
+        next += answered;
+        processes += 1;
+    }
+    Ok(processes)
+}
+
+/// One case, as given, to the command.
+pub fn one(case: Case, command: &[String], tally: &mut Tally) -> Result<(), String> {
+    let mut bytes = Vec::new();
+    write_case(&mut bytes, &case).expect("memory takes all");
+    let mut batch = start(command, bytes)?;
+    let result = compare(&mut batch.answers, std::iter::once((0, case)), tally);
+    stop(batch)?;
+    result.map(|_| ())
+}
+
+/// Streams cut inside a case must give the whole cases before it and "CUT\n"; an empty one "END\n".
+pub fn cuts(seed: u64, count: u64, command: &[String], tally: &mut Tally) -> Result<(), String> {
+    for index in 0..count {
+        let whole = index % 4;
+        let from = index * 4;
+        let mut bytes = stream_of(seed, from, from + whole);
+        let next = stream_of(seed, from + whole, from + whole + 1);
+        let keep = match index % 5 {
+            0 => 0,
+            1 => 1 + index as usize % 11,
+            2 => 12.min(next.len() - 1),
+            3 => next.len() - 1,
+            _ => next.len() / 2,
+        };
+        bytes.extend(&next[..keep]);
+        let mut batch = start(command, bytes)?;
+        let cases = (from..from + whole).map(|i| (i, make::case(seed, i)));
+        let result = compare(&mut batch.answers, cases, tally);
+        stop(batch)?;
+        let due = if keep == 0 { b"END\n" } else { b"CUT\n" };
+        if result? != (whole, *due) {
+            return Err(format!("stream {index}, {keep} bytes of a case: wrong end"));
+        }
+    }
+    Ok(())
+}

@@ -1,0 +1,168 @@
+//! The refusal table by hand: one byte or two of the paper's network changed, and what must come
+//! out written down beside it. These do not go through the maker, and no judge made them.
+
+use crate::judge::Verdict;
+
+/// Bytes to change: where, and to what.
+type Edits = &'static [(usize, u8)];
+
+/// What is done to the paper's network (140 bytes, records from 8, 52 and 96), to the fault (HALL,
+/// kind 1, phase 0, Zf 0) and to the buffer's room (85).
+pub struct Line {
+    pub name: &'static str,
+    pub net: Edits,
+    pub net_length: usize,
+    pub fault: Edits,
+    pub fault_length: usize,
+    pub room: usize,
+    /// Number, place, whose, start, length.
+    pub due: [u32; 5],
+}
+
+impl Line {
+    pub fn agrees(&self, v: &Verdict) -> bool {
+        let n = if self.due[0] == 0 { 3 } else { 0 };
+        let amps_fit = (v.amps > 0) == (n > 0);
+        let got = [v.number, v.place, v.whose, v.start, v.length];
+        got == self.due && v.boards == n && amps_fit
+    }
+}
+
+const fn net(name: &'static str, net: Edits, due: [u32; 5]) -> Line {
+    Line {
+        name,
+        net,
+        net_length: 140,
+        fault: &[],
+        fault_length: 20,
+        room: 85,
+        due,
+    }
+}
+
+const fn cut(name: &'static str, net_length: usize, due: [u32; 5]) -> Line {
+    Line {
+        net_length,
+        ..net(name, &[], due)
+    }
+}
+
+const fn fault(name: &'static str, fault: Edits, due: [u32; 5]) -> Line {
+    Line {
+        fault,
+        ..net(name, &[], due)
+    }
+}
+
+const fn fault_cut(fault_length: usize, due: [u32; 5]) -> Line {
+    Line {
+        fault_length,
+        ..net("12: the fault's length", &[], due)
+    }
+}
+
+const fn room(name: &'static str, room: usize, due: [u32; 5]) -> Line {
+    Line {
+        room,
+        ..net(name, &[], due)
+    }
+}
+
+const HALL: [u32; 5] = [0, 3, 1, 96, 44];
+/// Source unearthed: kind 1, x0 and xn zero. BOOTH-WEST-1 loses its earth return, HALL keeps it.
+const UNEARTHED: Edits = &[(34, 1), (46, 0), (50, 0)];
+const BOOTH: Edits = &[
+    (2, b'B'),
+    (3, b'O'),
+    (4, b'O'),
+    (5, b'T'),
+    (6, b'H'),
+    (7, b'-'),
+    (8, b'W'),
+    (9, b'E'),
+    (10, b'S'),
+    (11, b'T'),
+    (12, b'-'),
+    (13, b'1'),
+];
+
+pub const HEAD: [Line; 12] = [
+    net("taken as it stands", &[], HALL),
+    cut("1: no bytes", 0, [1, 0, 1, 0, 0]),
+    cut("1: seven bytes", 7, [1, 0, 1, 0, 7]),
+    net("2: hD", &[(0, b'h')], [2, 0, 1, 0, 8]),
+    net("3: volts 0", &[(2, 0)], [3, 0, 1, 0, 8]),
+    net("3: volts 1,001", &[(2, 0xe9), (3, 3)], [3, 0, 1, 0, 8]),
+    net("3: unit 9", &[(4, 9), (5, 0)], [3, 0, 1, 0, 8]),
+    net("3: N 0", &[(6, 0)], [3, 0, 1, 0, 8]),
+    cut("4: head alone", 8, [4, 0, 1, 0, 8]),
+    cut("4: a byte short", 139, [4, 0, 1, 0, 8]),
+    cut("4: a byte long", 141, [4, 0, 1, 0, 8]),
+    net("4: N 2", &[(6, 2)], [4, 0, 1, 0, 8]),
+];
+
+pub const RECORDS: [Line; 20] = [
+    net("5: record 2", &[(52, b'X')], [5, 2, 1, 52, 44]),
+    net("6: begins with a space", &[(54, 32)], [6, 2, 1, 52, 44]),
+    net("6: 0x7f", &[(98, 0x7f)], [6, 3, 1, 96, 44]),
+    net(
+        "7: HALL called GEN",
+        &[(98, b'G'), (99, b'E'), (100, b'N'), (101, 32)],
+        [7, 3, 1, 96, 44],
+    ),
+    net("8: record 1 has a feeder", &[(22, b'X')], [8, 1, 1, 8, 44]),
+    net("8: GENX", &[(69, b'X')], [8, 2, 1, 52, 44]),
+    net("9: cable with clock 1", &[(79, 1)], [9, 2, 1, 52, 44]),
+    net("9: kind 4, clock 10", &[(123, 10)], [9, 3, 1, 96, 44]),
+    net("9: kind 4, clock 13", &[(123, 13)], [9, 3, 1, 96, 44]),
+    net("9: record 1 a cable", &[(34, 2)], [9, 1, 1, 8, 44]),
+    net("9: record 2 a source", &[(78, 0)], [9, 2, 1, 52, 44]),
+    net("9: kind 6", &[(122, 6)], [9, 3, 1, 96, 44]),
+    net("10: z1 not z2", &[(80, 31)], [10, 2, 1, 52, 44]),
+    net("10: source's z2 zero", &[(42, 0)], [10, 1, 1, 8, 44]),
+    net("10: cable with zn", &[(94, 1)], [10, 2, 1, 52, 44]),
+    net("10: x0 4,096", &[(134, 0), (135, 16)], [10, 3, 1, 96, 44]),
+    // 20 + 4,076 in Z1 and Z2, then 20 + 4,075.
+    net(
+        "11: Z1 and Z2 4,096",
+        &[(82, 0xec), (83, 15), (86, 0xec), (87, 15)],
+        [11, 2, 1, 52, 44],
+    ),
+    net(
+        "taken: Z1 and Z2 4,095",
+        &[(82, 0xeb), (83, 15), (86, 0xeb), (87, 15)],
+        HALL,
+    ),
+    // z0 + 3 zn of HALL: 20 + 3 1,359 = 4,097, and 20 + 3 1,358 = 4,094.
+    net("11: Z0 4,097", &[(138, 0x4f), (139, 5)], [11, 3, 1, 96, 44]),
+    net("taken: Z0 4,094", &[(138, 0x4e), (139, 5)], HALL),
+];
+
+pub const FAULTS: [Line; 19] = [
+    fault_cut(0, [12, 0, 2, 0, 0]),
+    fault_cut(19, [12, 0, 2, 0, 19]),
+    fault_cut(21, [12, 0, 2, 0, 21]),
+    fault("13: fT", &[(0, b'f')], [13, 0, 2, 0, 20]),
+    fault("14: HALX", &[(5, b'X')], [14, 0, 2, 0, 20]),
+    fault("14: hALL", &[(2, b'h')], [14, 0, 2, 0, 20]),
+    fault("14: a wrong form", &[(2, 0)], [14, 0, 2, 0, 20]),
+    fault("15: kind 4", &[(14, 4)], [15, 0, 2, 0, 20]),
+    fault("15 before 16", &[(14, 4), (15, 9)], [15, 0, 2, 0, 20]),
+    fault("16: phase 3", &[(15, 3)], [16, 0, 2, 0, 20]),
+    fault("16: kind 0", &[(14, 0), (15, 1)], [16, 0, 2, 0, 20]),
+    fault("17: r 1,366", &[(16, 0x56), (17, 5)], [17, 0, 2, 0, 20]),
+    fault("taken: x 1,365", &[(18, 0x55), (19, 5)], HALL),
+    Line {
+        fault: BOOTH,
+        ..net("18: no earth return", UNEARTHED, [18, 2, 2, 0, 20])
+    },
+    net("taken: kind 4 starts afresh", UNEARTHED, HALL),
+    Line {
+        fault: BOOTH,
+        room: 0,
+        ..net("18 before 19", UNEARTHED, [18, 2, 2, 0, 20])
+    },
+    room("19: 84 numbers", 84, [19, 0, 2, 0, 0]),
+    room("19: none", 0, [19, 0, 2, 0, 0]),
+    room("taken: 86 numbers", 86, HALL),
+];
