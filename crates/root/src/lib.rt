@@ -1,4 +1,6 @@
 // The greatest n with n * n * den <= num, for whole numbers of 128 bits.
+mod guess;
+
 ghost use mathlib.Core.Path.{_≡_};
 ghost use Prim.Native.Nat.{_*_, _≤_, _<_};
 ghost use lib.Dec.{leb};

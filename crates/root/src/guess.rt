@@ -39,7 +39,7 @@ fn root_of_twice(m: u64) -> u64 {
 
 // One more than about the root of num / den. With e half of what num is longer by, m is num / den * 2^(61 - 2e), so
 // the root of 2 * m is the one sought times 2^(31 - e). Of e, % takes nothing off.
-pub fn near(num: Wide, den: Wide) -> u64 {
+pub(super) fn near(num: Wide, den: Wide) -> u64 {
     let a = leading(num);
     let b = leading(den);
     if a.head == 0 {

@@ -3,8 +3,8 @@ use Prim.Native.Nat.{_+_, _/_}
 use native.Mathlib.Nat.{div-le-self}
 use native.Mathlib.Omega.{arith}
 use borrow.Author.Needs.{needs}
-use Rattle.guess.proofs.closer.Statement.{statement}
-use Rattle.guess.proofs.closer.Tie as tie
+use Rattle.root.proofs.guess.closer.Statement.{statement}
+use Rattle.root.proofs.guess.closer.Tie as tie
 
 add-h : tie.Need-add-h
 add-h c = search needs
