@@ -9,7 +9,7 @@ use Rattle.paper.specs.Kind.{isZero}
 use Rattle.paper.specs.Chain.{Z1, Z2}
 use Rattle.paper.specs.Phase.{Asked, theD}
 use Rattle.paper.specs.Amps.{amps, factor}
-use Rattle.paper.proofs.Divisor.{theD-natural, theD-least}
+use Rattle.follows.proofs.Divisor.{theD-natural, theD-least}
 use Rattle.amps.proofs.Exact.{voltsSquare, amps-only}
 use Rattle.amps.specs.Positive.{Positive}
 

@@ -24,10 +24,10 @@ use Rattle.paper.specs.declared.Seq.{Seq}
 use Rattle.paper.specs.Fault.{numOf, seq, shorts, shortOf, currents}
 use Rattle.paper.specs.Phase.{Asked, theD, theI, shows}
 use Rattle.paper.specs.Amps.{greatest, said, saidSquare, ampsOver, ampsUnder, amps, factor}
-use Rattle.paper.proofs.Flat.{flat-num, flat-add, flat-neg, flat-square}
-use Rattle.paper.proofs.Row.{rowOf}
-use Rattle.paper.proofs.Square.{sq}
-use Rattle.paper.proofs.Divisor.{D-natural, D-square, theD-least}
+use Rattle.follows.proofs.Flat.{flat-num, flat-add, flat-neg, flat-square}
+use Rattle.follows.proofs.Row.{rowOf}
+use Rattle.follows.proofs.Square.{sq}
+use Rattle.follows.proofs.Divisor.{D-natural, D-square, theD-least}
 use Rattle.paper.specs.Bounds.{AtMost}
 use Rattle.amps.proofs.Greatest.{greatest-is, root-scale, greatest-scale}
 

@@ -19,7 +19,7 @@ use Rattle.paper.specs.Chain.{Z2}
 use Rattle.paper.specs.Phase.{Asked, theD, phases, faultCurrents}
 use Rattle.paper.specs.Amps.{amps, factor}
 use Rattle.paper.specs.Answer.{flat, numbers, ofBoards}
-use Rattle.paper.proofs.Chain.{feeder-earlier}
+use Rattle.follows.proofs.Chain.{feeder-earlier}
 use Rattle.amps.proofs.Exact.{voltsSquare}
 use Rattle.node.specs.declared.Node.{Node}
 use Rattle.node.specs.Node.{nodeOf, noNode}
@@ -27,9 +27,9 @@ use Rattle.node.specs.Tables.{table, nodesOf}
 use Rattle.node.proofs.Tables.{nodes-length}
 use Rattle.amps.specs.Positive.{Positive}
 use Rattle.amps.proofs.Asked.{theD-positive, amps-are}
-use Rattle.share.specs.Share.{FromEarlier, marksOf}
-use Rattle.board.specs.declared.Faulted.{Faulted}
-use Rattle.board.specs.Faulted.{faultedFrom, topOf}
+use Rattle.chain.specs.Marked.{FromEarlier, marksOf}
+use Rattle.faulted.specs.declared.Faulted.{Faulted}
+use Rattle.faulted.specs.Faulted.{faultedFrom, topOf}
 use Rattle.pass.specs.Ready.{Ready}
 use Rattle.pass.specs.Passing.{Passing}
 use Rattle.answer.specs.Posed.{Posed}

@@ -9,13 +9,13 @@ ghost use Rattle.paper.specs.Amps.{amps};
 ghost use Rattle.paper.specs.Answer.{numbers};
 ghost use Rattle.answer.specs.Posed.{Posed};
 use amps::amps;
-use board::fault_at;
-use board::top;
+use chain::chain;
+use faulted::fault_at;
+use faulted::top;
 use node::Node;
 use paper::Fault;
 use paper::Head;
 use pass::boards;
-use share::chain;
 
 // Of whatever question this is the head, the nodes, the fault and the faulted board's place: its amps, and its numbers from the front of the buffer.
 pub fn answer(head: Head, nodes: [Node; 256], fault: Fault, k: usize, out: &mut [i64]) -> u64

@@ -10,7 +10,8 @@ use Rattle.paper.specs.Chain.{Boards, placeOf}
 use Rattle.paper.specs.Rows.{first}
 use Rattle.paper.specs.Refusal.{faultRows}
 use Rattle.paper.specs.declared.Outcome.the-variants.{Accepted, Refused}
-use Rattle.ask.specs.Ask.{acceptedQuestion, asking, askOf}
+use Rattle.question.specs.Question.{acceptedQuestion, asking}
+use Rattle.ask.specs.Ask.{askOf}
 
 pub never : {A : Type 0} {r : Refusal} → Refused r ≡ Accepted → A
 never e = let z : _≡_ {A = ℕ} 0 1 = cc in absurd (omega arith)

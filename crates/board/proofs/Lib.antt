@@ -1,4 +1,3 @@
 -- Theorems about a board's numbers. None needs believing.
-pub mod Twelve
 pub mod Small
 mod Nothing

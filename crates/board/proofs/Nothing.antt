@@ -11,9 +11,9 @@ use Rattle.turn.proofs.Ring.{Nring}
 use Rattle.paper.specs.Fault.{nilN, seq}
 use Rattle.paper.specs.Phase.{onlyIf, four, shows, phase, phases}
 use Rattle.node.specs.declared.Node.{Node}
-use Rattle.share.specs.Share.{carriedOf}
-use Rattle.board.specs.declared.Faulted.{Faulted}
-use Rattle.board.specs.Faulted.{passedOf}
+use Rattle.carried.specs.Carried.{carriedOf}
+use Rattle.faulted.specs.declared.Faulted.{Faulted}
+use Rattle.board.specs.Numbers.{passedOf}
 
 -- a sum of nothing, turned
 shows-nothing : (p sj sk i : ℕ) → shows p sj sk (seq nilN nilN nilN) i ≡ nilN

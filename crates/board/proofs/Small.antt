@@ -5,14 +5,12 @@ use Rattle.fits.proofs.Sizes.{voltageOf-plane}
 use Rattle.fits.proofs.Fits.{only-if, as-wide}
 use Rattle.node.specs.declared.Node.{Node}
 use Rattle.share.specs.declared.Shared.{Shared}
-use Rattle.share.specs.Share.{carriedOf}
-use Rattle.board.specs.declared.Faulted.{Faulted}
-use Rattle.board.specs.Faulted.{FaultSmall, ShareSmall, leftOf, passedOf}
+use Rattle.carried.specs.Carried.{carriedOf}
+use Rattle.faulted.specs.declared.Faulted.{Faulted}
+use Rattle.faulted.specs.Faulted.{FaultSmall}
+use Rattle.board.specs.Numbers.{ShareSmall, leftOf, passedOf}
 
 module _ {f : Faulted} (h : FaultSmall f) where
-  pub i-wide : EachSeq (Plane mostW) (f .i)
-  i-wide = as-wide (h .i-small)
-
   pub left-small : {s : Shared} → ShareSmall s → EachSeq (Plane mostW) (leftOf f s)
   unfolding leftOf
   left-small u = voltageOf-plane (h .d-small) (h .i-small) (u .share1) (u .share2) (u .share0)

@@ -1,1 +1,1 @@
-pub mod Faulted
+pub mod Numbers

@@ -14,9 +14,9 @@ use Rattle.paper.specs.Label.{Label}
 use Rattle.paper.specs.Kind.{ohms, _+Ω_, Zero, starts, goes-on, none, kindOf, term}
 use Rattle.paper.specs.Chain.{Boards, placeOf, lookFrom, feederOf, startsAt, unearthed, Z1, Z2, Z0, turnOf}
 use Rattle.paper.specs.Refusal.{feederWrong}
-use Rattle.paper.proofs.Places.{same-label, look-here, place-most, place-stays, place-behind, Looked, looked, missing, found}
-use Rattle.paper.proofs.Chain.{ZeroIs, starts-nowhere}
-use Rattle.paper.proofs.Next.{feeder-next, Z1-next, Z2-next, turn-next, next-starts, next-goes-on, next-cut, next-blocked}
+use Rattle.follows.proofs.Places.{same-label, look-here, place-most, place-stays, place-behind, Looked, looked, missing, found}
+use Rattle.follows.proofs.Chain.{ZeroIs, starts-nowhere}
+use Rattle.follows.proofs.Next.{feeder-next, Z1-next, Z2-next, turn-next, next-starts, next-goes-on, next-cut, next-blocked}
 use Rattle.node.specs.declared.Node.{Node}
 use Rattle.node.specs.Node.{nodeOf, nodeFrom, withZero}
 

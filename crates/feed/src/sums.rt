@@ -2,29 +2,13 @@
 ghost use mathlib.Core.Path.{_≡_};
 ghost use Rattle.paper.specs.Kind.{_+Ω_, kindOf};
 ghost use Rattle.paper.specs.Bounds.{AtMost};
-ghost use Rattle.node.specs.Node.{started, withZero, nodeFrom, nodeOver, noNode, OwnSmall, UpSmall};
-use impedance::over;
+ghost use Rattle.node.specs.Node.{started, withZero, nodeFrom, OwnSmall, UpSmall};
 use node::Node;
 use paper::Board;
 use paper::Ohms;
 use zero::ZeroWord;
 use zero::zero_term;
 use zero::zero_word;
-
-// The node above record 1.
-pub fn no_node() -> Node
-    ensures { λ r. ⌜ r ≡ noNode ⌝ }
-{
-    let zero = Ohms { r: 0, x: 0 };
-    Node {
-        z1: zero,
-        z2: zero,
-        z0: zero,
-        feeder: 0,
-        start: 0,
-        turn: 0,
-    }
-}
 
 // z0 + 3zn of one record is at most 16,380.
 fn plus(a: Ohms, b: Ohms) -> Ohms
@@ -98,14 +82,4 @@ pub fn node_from(r: u16, b: Board, feeder: u16, up: Node) -> Node
         turn,
     };
     with_zero(n, r, b, up)
-}
-
-// 11
-pub fn node_over(n: Node) -> bool
-    ensures { λ r. ⌜ r ≡ nodeOver n ⌝ }
-{
-    let z1 = n.z1;
-    let z2 = n.z2;
-    let z0 = n.z0;
-    over(4095, z1) | over(4095, z2) | over(4095, z0)
 }

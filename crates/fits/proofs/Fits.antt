@@ -21,7 +21,7 @@ use Rattle.paper.specs.Phase.{Asked, theD, theI, voltage, onlyIf, current, phas
 use Rattle.paper.specs.Answer.{flat, ofBoard, ofBoards, numbers}
 use Rattle.paper.specs.Bounds.{AtMost, Plane, EachSeq, mostD, mostI, mostW}
 use Rattle.fits.proofs.Plane.{plane-whole, plane-weak}
-use Rattle.paper.proofs.Shared.{shared1-small, shared2-small, shared0-small}
+use Rattle.follows.proofs.Shared.{shared1-small, shared2-small, shared0-small}
 use Rattle.fits.proofs.Sizes.{Ranged, D-most, currents-plane, voltageOf-plane, shows-fits}
 
 -- ---- every number of a list

@@ -15,7 +15,7 @@ use Rattle.turn.proofs.Within.{within-weak, within-add, within-sub, within-turn
 use Rattle.paper.specs.declared.Ohms.{Ohms}
 use Rattle.paper.specs.declared.Seq.{Seq}
 use Rattle.paper.specs.Fault.{numOf}
-use Rattle.paper.proofs.Row.{GOf, rowOf}
+use Rattle.follows.proofs.Row.{GOf, rowOf}
 use Rattle.paper.specs.Bounds.{AtMost, Plane, EachSeq, mostD, mostI, mostW}
 use Rattle.fits.proofs.Plane.{plane-num, plane-whole, plane-add, plane-mul, plane-conj, addable, negatable, turnable, squarable, factors}
 use Rattle.fits.proofs.Sizes.{Ranged, plane-one, G-plane, divisor-plane, above-plane, drop-plane}

@@ -20,7 +20,7 @@ use Rattle.paper.specs.declared.Ohms.{Ohms}
 use Rattle.paper.specs.Kind.{partOver}
 use Rattle.paper.specs.Fault.{numOf}
 use Rattle.paper.specs.Bounds.{AtMost, Plane}
-use Rattle.paper.proofs.Flat.{flat-is, flat-complex, flat-add, flat-neg, flat-mul, flat-conj}
+use Rattle.follows.proofs.Flat.{flat-is, flat-complex, flat-add, flat-neg, flat-mul, flat-conj}
 
 pub plane-num : {b : ℕ} {z : Ohms} → AtMost b z → Plane b (numOf z)
 unfolding numOf
@@ -68,8 +68,8 @@ addable p h = within-weak h (p .within)
 pub negatable : {b : ℕ} {n : Num} → Plane b n → b ≤ 2 ^ 62 → Negatable n
 negatable p h = within-weak h (p .within)
 
-pub turnable : {b : ℕ} {n : Num} → Plane b n → b ≤ 2 ^ 60 → Turnable n
-turnable p h = within-weak h (p .within)
+pub turnable : {b : ℕ} {n : Num} → Plane b n → b ≤ 2 ^ 61 → Turnable n
+turnable p h = record { no-t = p .flat .no-t; no-t² = p .flat .no-t²; within = within-weak h (p .within) }
 
 pub squarable : {b : ℕ} {n : Num} → Plane b n → b ≤ 2 ^ 30 → Squarable n
 squarable p h = record { no-t = p .flat .no-t; no-t² = p .flat .no-t²; within = within-weak h (p .within) }

@@ -21,8 +21,8 @@ use Rattle.paper.specs.Kind.{_+Ω_}
 use Rattle.paper.specs.declared.Seq.{Seq}
 use Rattle.paper.specs.Fault.{nilN, numOf, seq, G, Δ, shorts, shortOf, currents}
 use Rattle.paper.specs.Phase.{voltageOf, shows}
-use Rattle.paper.proofs.Row.{each-row, GOf, ΔOf, rowOf, DOf, IOf}
-use Rattle.paper.proofs.Square.{earthed, sq, dot, sqΔ, real-Δ, each-D}
+use Rattle.follows.proofs.Row.{each-row, GOf, ΔOf, rowOf, DOf, IOf}
+use Rattle.follows.proofs.Square.{earthed, sq, dot, sqΔ, real-Δ, each-D}
 use Rattle.paper.specs.Bounds.{AtMost, Plane, EachSeq, mostD, mostI, mostW}
 use Rattle.fits.proofs.Plane.{plane-num, plane-whole, plane-weak, plane-add, plane-neg, plane-sub, plane-mul, plane-conj, plane-turn}
 

@@ -18,9 +18,9 @@ use Rattle.paper.specs.Rows.{Test, test, Row, row, rowsAt, first}
 use Rattle.paper.specs.File.{markOf, BD, boardOf}
 use Rattle.paper.specs.Chain.{Boards, placeOf}
 use Rattle.paper.specs.Refusal.{feederWrong, kindWrong, impedanceWrong, sumWrong, boardTests, recordRefusal, theRecord}
-use Rattle.paper.proofs.Places.{place-most}
+use Rattle.follows.proofs.Places.{place-most}
 use Rattle.lemmas.proofs.Bools.{same-by}
-use Rattle.paper.proofs.Fit.{Fit, fit}
+use Rattle.follows.proofs.Fit.{Fit, fit}
 use Rattle.node.specs.Node.{OwnSmall}
 use Rattle.inspect.specs.Rules.{fedWrong, numberOf, broken}
 use Rattle.feed.proofs.Behind.{own-place, used-place, place-earlier, place-not-earlier}

@@ -4,15 +4,15 @@ ghost use Prim.Native.Nat.{_≤_, _<_};
 ghost use Rattle.node.specs.Node.{UpSmall};
 ghost use Rattle.inspect.specs.Rules.{fedWrong, broken, earlier, stepOf};
 use super::Step;
-use feed::sums::no_node;
 use feed::sums::node_from;
-use feed::sums::node_over;
 use formed::formed;
-use kind::impedance_wrong;
 use kind::kind_wrong;
 use label::is_spaces;
+use must_hold::impedance_wrong;
 use node::Node;
 use paper::Board;
+use sum_rules::no_node;
+use sum_rules::node_over;
 
 // A board's mark.
 const BD: u16 = 0x4442;

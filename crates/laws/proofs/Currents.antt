@@ -13,7 +13,7 @@ use Rattle.turn.proofs.Ring.{Nring, +N-zero}
 use Rattle.paper.specs.Bytes.{oneOf}
 use Rattle.paper.specs.Fault.{nilN}
 use Rattle.paper.specs.Phase.{onlyIf}
-use Rattle.paper.proofs.Paths.{from-earlier}
+use Rattle.follows.proofs.Paths.{from-earlier}
 use Rattle.laws.specs.Laws.{drawnFrom, Kirchhoff}
 use Rattle.laws.proofs.Sums.{only-there, only-gone, only-nil, drawn-nil}
 

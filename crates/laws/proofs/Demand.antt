@@ -17,8 +17,8 @@ use Rattle.paper.specs.Chain.{chain, zeroChain, sumΩ, term1, term2, term0, Z1,
 use Rattle.paper.specs.Fault.{nilN, shorts, shortOf, currents}
 use Rattle.paper.specs.Phase.{Asked, asked, theD, theI, voltageOf, voltage, current}
 use Rattle.paper.specs.Refusal.{refusal}
-use Rattle.paper.proofs.Lists.{common-all}
-use Rattle.paper.proofs.Given.{question, z2-not-zero, D-at-least-one}
+use Rattle.follows.proofs.Lists.{common-all}
+use Rattle.follows.proofs.Given.{question, z2-not-zero, D-at-least-one}
 use Rattle.laws.specs.Values.{Values, answers, SameSeq}
 use Rattle.laws.specs.Connection.{Connected}
 use Rattle.laws.specs.Demand.{Only, Demand}

@@ -15,8 +15,8 @@ use Rattle.paper.specs.Bytes.{oneOf}
 use Rattle.paper.specs.Chain.{sumΩ, common}
 use Rattle.paper.specs.Fault.{nilN, numOf}
 use Rattle.paper.specs.Phase.{onlyIf}
-use Rattle.paper.proofs.Paths.{from-earlier}
-use Rattle.paper.proofs.Square.{num-add}
+use Rattle.follows.proofs.Paths.{from-earlier}
+use Rattle.follows.proofs.Square.{num-add}
 use Rattle.laws.specs.Laws.{Ohm}
 use Rattle.laws.proofs.Currents.{Goes}
 

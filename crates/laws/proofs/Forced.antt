@@ -12,26 +12,18 @@ use Rattle.turn.specs.declared.Num.{Num}
 use Rattle.turn.specs.Number.{wholeN, oneN, powerN, turnN, timesT, _+N_, _·N_, _*N_, conjN}
 use Rattle.turn.proofs.Ring.{Nring, whole-times}
 use Rattle.turn.proofs.TRing.{Ncoef, Tring}
-use Rattle.turn.proofs.Conj.{turn-absolute}
-use Rattle.turn.proofs.Cancel.{cancel-whole}
+use Rattle.turn.proofs.Cancel.{cancel-whole, turn-cancels}
 use Rattle.paper.specs.declared.Ohms.{Ohms}
 use Rattle.paper.specs.declared.Seq.{Seq}
 use Rattle.paper.specs.declared.Fault.{Fault}
 use Rattle.paper.specs.Kind.{isZero}
 use Rattle.paper.specs.Fault.{nilN, numOf, G, Δ, shorts, shortOf, currents}
 use Rattle.paper.specs.Phase.{voltageOf}
-use Rattle.paper.proofs.Row.{rowOf, DOf, IOf}
-use Rattle.paper.proofs.Divisor.{D-square, cancel-divisor, Over}
+use Rattle.follows.proofs.Row.{rowOf, DOf, IOf}
+use Rattle.follows.proofs.Divisor.{D-square, cancel-divisor, Over}
 use Rattle.laws.specs.Values.{Same, SameSeq}
 use Rattle.laws.specs.Connection.{Condition, Connected}
 use Rattle.laws.proofs.Conditions.{turnE, Z1E, Z2E, Z0E, ZfE, oneE, nilE, SeqE, seqE, GE, divisorE, aboveE, voltageE, Multipliers, conditions, values, value, valueSeq, equations}
-
--- a turn cancels: times its conjugate it is one
-pub turn-cancels : (n : ℕ) (x y : Num) → turnN n x ≡ turnN n y → x ≡ y
-unfolding powerN timesT conjN _+N_ _·N_
-turn-cancels n x y h =
-    solveBy Nring 4 (λ t c x y. eqn (y ⊖ x) (t ⊗ con (pos 1) ⊗ c) (con (pos 1) ⊗ con (pos 1)) ∷ eqn c (t ⊗ x) (t ⊗ y) ∷ []) (λ t c x y. x) (λ t c x y. y) tt
-    (powerN n) (conjN (turnN n oneN)) x y (turn-absolute n oneN, (h, tt))
 
 -- ---- the rivals' variables: E, and the three sequences of the current
 abbrev sourceE : E Num

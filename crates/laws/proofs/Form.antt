@@ -16,8 +16,8 @@ use Rattle.paper.specs.Kind.{Zero, zeroTerm}
 use Rattle.paper.specs.Chain.{Boards, board, feederOf, chain, zeroOf, zeroChain, unearthed, shared1, shared2, shared0}
 use Rattle.paper.specs.Fault.{nilN, numOf, seq}
 use Rattle.paper.specs.Phase.{Asked, voltageOf, onlyIf}
-use Rattle.paper.proofs.Lists.{nothing-on}
-use Rattle.paper.proofs.Shared.{empty-shares}
+use Rattle.follows.proofs.Lists.{nothing-on}
+use Rattle.follows.proofs.Shared.{empty-shares}
 use Rattle.laws.specs.Values.{Values, Everywhere}
 use Rattle.laws.specs.Laws.{Ohm, drawnFrom, draws0, above}
 use Rattle.laws.proofs.Sums.{sum-same}

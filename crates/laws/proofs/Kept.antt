@@ -18,8 +18,8 @@ use Rattle.paper.specs.declared.Seq.{Seq}
 use Rattle.paper.specs.declared.Fault.{Fault}
 use Rattle.paper.specs.Fault.{numOf, seq, G, Δ, shorts, shortOf, currents}
 use Rattle.paper.specs.Phase.{voltageOf}
-use Rattle.paper.proofs.Row.{rowOf, DOf, IOf}
-use Rattle.paper.proofs.Divisor.{D-square}
+use Rattle.follows.proofs.Row.{rowOf, DOf, IOf}
+use Rattle.follows.proofs.Divisor.{D-square}
 use Rattle.laws.specs.Connection.{Condition, Connected}
 use Rattle.laws.proofs.Times.{times}
 use Rattle.laws.proofs.Conditions.{SeqE, seqE, nilE, divisorE, aboveE, voltageE, Multipliers, conditions, values, valueSeq, from-equations}

@@ -17,7 +17,7 @@ use Rattle.paper.specs.Kind.{Zero, starts, goes-on, none, term, zeroTerm}
 use Rattle.paper.specs.Chain.{board, feederOf, chain, zeroOf, zeroChain, empty, unearthed, term1, term2, term0, shared1, shared2, shared0}
 use Rattle.paper.specs.Fault.{nilN, numOf}
 use Rattle.paper.specs.Phase.{Asked, voltageOf, onlyIf}
-use Rattle.paper.proofs.Chain.{feeder-earlier, is-starts}
+use Rattle.follows.proofs.Chain.{feeder-earlier, is-starts}
 use Rattle.laws.specs.Values.{Values, Everywhere}
 use Rattle.laws.specs.Connection.{Connected}
 use Rattle.laws.specs.Laws.{Ohm, drawnFrom, Kirchhoff, draws0, Ohm0, Laws, Quiet}

@@ -11,6 +11,7 @@ use Rattle.paper.specs.declared.Seq.{Seq}
 use Rattle.paper.specs.Chain.{turnOf}
 use Rattle.paper.specs.Phase.{Asked, theD, theI, voltage, current, shows, phase, phases, faultCurrents, boardVoltages, recordCurrents}
 use Rattle.paper.specs.Answer.{flat, ofBoard, ofBoards, numbers}
+use Rattle.follows.proofs.Laid.{behind-top, board-size}
 use Rattle.laws.specs.Seen.{numberAt, placeOfBoard}
 
 -- ---- which phase is which: phase (p + i) mod 3 is i behind the odd phase
@@ -51,10 +52,6 @@ module _ (q : Asked) (rest : List ℤ) where
   read-F (suc (suc (suc ph))) l = absurd (omega arith)
 
   -- ---- a board's own numbers
-  board-length : (r : ℕ) → length (ofBoard q r) ≡ 24
-  unfolding ofBoard flat boardVoltages recordCurrents phases
-  board-length r = refl
-
   own-W : (r ph : ℕ) → ph ≤ 2 → numberAt (ofBoard q r) (4 * ph) ≡ phase (fault .phase) (turnOf boards r) (turnOf boards k) (voltage q r) ph
   unfolding ofBoard flat boardVoltages recordCurrents phases
   own-W r zero l = refl
@@ -77,10 +74,10 @@ module _ (q : Asked) (rest : List ℤ) where
       let e : 24 * 0 + j ≡ j = omega arith in
       let f : r ≡ r + 0 = omega arith in
       ap (λ (zs : List ℤ). getD zs (24 * 0 + j) (pos 0)) (append-assoc (ofBoard q r) (ofBoards q (suc r) n) rest) ∙ ap (λ (m : ℕ). getD (ofBoard q r ++ (ofBoards q (suc r) n ++ rest)) m (pos 0)) e
-      ∙ List·getD-append (ofBoard q r) (ofBoards q (suc r) n ++ rest) (pos 0) j (omega (arith, board-length r))
+      ∙ List·getD-append (ofBoard q r) (ofBoards q (suc r) n ++ rest) (pos 0) j (omega (arith, board-size q r))
       ∙ ap (λ (m : ℕ). getD (ofBoard q m) j (pos 0)) f
   boards-at (suc n) r (suc i) j h l =
-      let e : 24 * suc i + j ≡ length (ofBoard q r) + (24 * i + j) = omega (arith, board-length r) in
+      let e : 24 * suc i + j ≡ length (ofBoard q r) + (24 * i + j) = omega (arith, board-size q r) in
       let f : suc r + i ≡ r + suc i = omega arith in
       ap (λ (zs : List ℤ). getD zs (24 * suc i + j) (pos 0)) (append-assoc (ofBoard q r) (ofBoards q (suc r) n) rest)
       ∙ ap (λ (m : ℕ). getD (ofBoard q r ++ (ofBoards q (suc r) n ++ rest)) m (pos 0)) e
@@ -88,15 +85,11 @@ module _ (q : Asked) (rest : List ℤ) where
       ∙ boards-at n (suc r) i j (omega arith) l
       ∙ ap (λ (m : ℕ). getD (ofBoard q m) j (pos 0)) f
 
-  behind-top : drop 13 xs ≡ ofBoards q 1 (length boards) ++ rest
-  unfolding numbers flat faultCurrents phases
-  behind-top = refl
-
   at : (i j m : ℕ) → i < length boards → j < 24 → m ≡ 13 + 24 * i + j → getD xs m (pos 0) ≡ getD (ofBoard q (suc i)) j (pos 0)
   at i j m h l e =
       let f : m ≡ 13 + (24 * i + j) = omega arith in
       let g : 1 + i ≡ suc i = omega arith in
-      ap (λ (n : ℕ). getD xs n (pos 0)) f ∙ sym (getD-drop 13 xs (24 * i + j) (pos 0)) ∙ ap (λ (zs : List ℤ). getD zs (24 * i + j) (pos 0)) behind-top
+      ap (λ (n : ℕ). getD xs n (pos 0)) f ∙ sym (getD-drop 13 xs (24 * i + j) (pos 0)) ∙ ap (λ (zs : List ℤ). getD zs (24 * i + j) (pos 0)) (behind-top q rest)
       ∙ boards-at (length boards) 1 i j h l
       ∙ ap (λ (n : ℕ). getD (ofBoard q n) j (pos 0)) g
 

@@ -19,7 +19,7 @@ use Rattle.paper.specs.Fault.{seq}
 use Rattle.paper.specs.Phase.{Asked, asked, theD, theI, voltageOf, voltage, current, shows, phase}
 use Rattle.paper.specs.Refusal.{refusal, answerSize}
 use Rattle.paper.specs.Answer.{numbers, after, written}
-use Rattle.paper.proofs.Given.{question, D-at-least-one}
+use Rattle.follows.proofs.Given.{question, D-at-least-one}
 use Rattle.laws.specs.Values.{Values, answers, Same, SameSeq}
 use Rattle.laws.specs.Connection.{Connected}
 use Rattle.laws.specs.Laws.{Laws, Quiet}

@@ -13,9 +13,9 @@ use Rattle.paper.specs.Kind.{Term, Zero, starts, goes-on, none}
 use Rattle.paper.specs.Chain.{Boards, feederOf, chain, zeroOf, zeroChain, empty, unearthed}
 use Rattle.paper.specs.Fault.{nilN}
 use Rattle.paper.specs.Phase.{onlyIf}
-use Rattle.paper.proofs.Lists.{on-last}
-use Rattle.paper.proofs.Paths.{behind}
-use Rattle.paper.proofs.Chain.{feeder-earlier, chain-none, chain-board, zero-none, zero-goes, is-starts, is-goes-on, is-cut, is-blocked}
+use Rattle.follows.proofs.Lists.{on-last}
+use Rattle.follows.proofs.Paths.{behind}
+use Rattle.follows.proofs.Chain.{feeder-earlier, chain-none, chain-board, zero-none, zero-goes, is-starts, is-goes-on, is-cut, is-blocked}
 use Rattle.laws.specs.Laws.{draws0}
 use Rattle.laws.proofs.Sums.{only-gone, only-nil}
 use Rattle.laws.proofs.Currents.{Goes}

@@ -9,8 +9,8 @@ use lib.Dec.{ltb, eqb}
 use lib.ListN.{length}
 use borrow.Author.Tests.{lt-ltb, le-ltb, eq-eqb, ne-eqb, ltb-false, not-false}
 use Rattle.lemmas.proofs.Bools.{same-by}
-use Rattle.paper.proofs.Rows.{clear}
-use Rattle.paper.proofs.Accepted.{head-ranges}
+use Rattle.follows.proofs.Rows.{clear}
+use Rattle.follows.proofs.Accepted.{head-ranges}
 use Rattle.paper.specs.declared.Head.{Head}
 use Rattle.paper.specs.declared.Part.{Part}
 use Rattle.paper.specs.declared.Refusal.{Refusal}

@@ -3,7 +3,6 @@ ghost use mathlib.Core.Path.{_≡_};
 ghost use Rattle.paper.specs.Bytes.{part};
 ghost use Rattle.paper.specs.declared.Lent.the-variants.{NetworkBytes};
 ghost use Rattle.network.specs.Network.{refusedNetwork, networkOf, headNumber};
-use feed::sums::no_node;
 use field::u16_at;
 use file::bytes::head_of;
 use file::head::head_wrong;
@@ -16,6 +15,7 @@ use paper::Part;
 use paper::Refusal;
 use places::lookup_all;
 use records::judge;
+use sum_rules::no_node;
 use table::decode;
 use table::empty_board;
 

@@ -20,8 +20,9 @@ use Rattle.paper.specs.Bytes.{oneOf}
 use Rattle.paper.specs.Chain.{Boards, feederOf, chain, zeroChain, startsAt, Z1, Z2, Z0, turnOf}
 use Rattle.paper.specs.Phase.{Asked, theD, theI, voltage, current, phases, boardVoltages, recordCurrents}
 use Rattle.paper.specs.Answer.{flat, ofBoard, ofBoards}
-use Rattle.paper.proofs.Chain.{feeder-earlier}
-use Rattle.paper.proofs.Earth.{earthed-is}
+use Rattle.follows.proofs.Chain.{feeder-earlier}
+use Rattle.follows.proofs.Earth.{earthed-is}
+use Rattle.follows.proofs.Laid.{board-size, boards-size}
 use Rattle.fits.proofs.Sizes.{Ranged}
 use Rattle.fits.proofs.Fits.{SumsSmall, SharesSmall, shares-small, theD-small, theI-plane}
 use Rattle.node.specs.declared.Node.{Node}
@@ -33,12 +34,15 @@ use Rattle.fault.specs.declared.Shorted.{Shorted}
 use Rattle.fault.specs.Short.{shortedOf}
 use Rattle.fault.proofs.Asked.{shorted-is}
 use Rattle.volts.proofs.Asked.{voltage-is}
+use Rattle.chain.specs.Marked.{marksOf}
+use Rattle.chain.proofs.Climb.{mark-is}
 use Rattle.share.specs.declared.Shared.{Shared}
-use Rattle.share.specs.Share.{marksOf, noShare, sharedOf, shareFrom, carriedOf}
-use Rattle.share.proofs.Climb.{mark-is}
+use Rattle.share.specs.Share.{noShare, sharedOf, shareFrom}
 use Rattle.share.proofs.Pass.{share-none, share-next}
-use Rattle.board.specs.declared.Faulted.{Faulted}
-use Rattle.board.specs.Faulted.{faultedFrom, leftOf, passedOf, numbersOf, topOf, FaultSmall, ShareSmall}
+use Rattle.carried.specs.Carried.{carriedOf}
+use Rattle.faulted.specs.declared.Faulted.{Faulted}
+use Rattle.faulted.specs.Faulted.{faultedFrom, FaultSmall}
+use Rattle.board.specs.Numbers.{leftOf, passedOf, numbersOf, ShareSmall}
 use Rattle.pass.specs.Ready.{Ready}
 use Rattle.pass.specs.Passing.{Passing}
 
@@ -88,15 +92,6 @@ module _ (q : Asked) (ready : Ready q) where
 
 -- ---- the numbers of the boards, one behind the other
 module _ (q : Asked) where
-  pub board-length : (r : ℕ) → length (ofBoard q r) ≡ 24
-  unfolding ofBoard boardVoltages recordCurrents phases flat
-  board-length r = refl
-
-  pub boards-length : (r n : ℕ) → length (ofBoards q r n) ≡ 24 * n
-  unfolding ofBoards
-  boards-length r zero = refl
-  boards-length r (suc n) = length-append (ofBoard q r) (ofBoards q (suc r) n) ∙ omega (arith, board-length r, boards-length (suc r) n)
-
   boards-next : (r n : ℕ) → ofBoards q r (suc n) ≡ ofBoards q r n ++ ofBoard q (r + n)
   unfolding ofBoards
   boards-next r zero = let e : r ≡ r + 0 = omega arith in append-nil (ofBoard q r) ∙ ap (ofBoard q) e
@@ -188,14 +183,14 @@ module _ (q : Asked) (nodes : List Node) (n : ℕ) (on : List Bool) (f : Faulted
         before = ofBoards q 1 j
 
         place : 13 + 24 * j ≡ 13 + length before
-        place = omega (arith, boards-length q 1 j)
+        place = omega (arith, boards-size q 1 j)
 
         next : suc j ≡ 1 + j
         next = omega arith
 
         behind : putMid (13 + 24 * j) m out part ≡ over 13 (ofBoards q 1 (j + 1)) out₀
         behind =
-            put-over (13 + 24 * j) m out part (ofBoard q (suc j)) numbers (size ∙ sym (board-length q (suc j)))
+            put-over (13 + 24 * j) m out part (ofBoard q (suc j)) numbers (size ∙ sym (board-size q (suc j)))
             ∙ (λ i. over (place i) (ofBoard q (suc j)) (t .written i))
             ∙ over-then 13 before (ofBoard q (suc j)) out₀ (omega arith)
             ∙ ap (λ m. over 13 (before ++ ofBoard q m) out₀) next
@@ -203,7 +198,7 @@ module _ (q : Asked) (nodes : List Node) (n : ℕ) (on : List Bool) (f : Faulted
             ∙ ap (λ m. over 13 (ofBoards q 1 m) out₀) (sym (add-one j))
 
     pub keeps-length : {out′ : List ℤ} {shares′ : List Shared} → 13 + 24 * n ≤ length out₀ → Turned out₀ out′ shares′ (j + 1) → length out′ ≡ length out₀
-    keeps-length room u = ap length (u .written) ∙ over-length (pos 0) 13 (ofBoards q 1 (j + 1)) out₀ (omega (arith, boards-length q 1 (j + 1)))
+    keeps-length room u = ap length (u .written) ∙ over-length (pos 0) 13 (ofBoards q 1 (j + 1)) out₀ (omega (arith, boards-size q 1 (j + 1)))
 
 -- a board's part of the buffer
 pub part-length : (a : ℕ) (xs : List ℤ) → a + 24 ≤ length xs → length (take (a + 24 - a) (drop a xs)) ≡ 24

@@ -8,9 +8,9 @@ use Rattle.paper.specs.Phase.{Asked}
 use Rattle.node.specs.declared.Node.{Node}
 use Rattle.node.specs.Node.{nodeOf, noNode}
 use Rattle.node.specs.Tables.{table, nodesOf}
-use Rattle.share.specs.Share.{marksOf}
-use Rattle.board.specs.declared.Faulted.{Faulted}
-use Rattle.board.specs.Faulted.{faultedFrom}
+use Rattle.chain.specs.Marked.{marksOf}
+use Rattle.faulted.specs.declared.Faulted.{Faulted}
+use Rattle.faulted.specs.Faulted.{faultedFrom}
 use Rattle.pass.specs.Ready.{Ready}
 
 module _ (q : Asked) where

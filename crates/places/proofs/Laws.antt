@@ -9,7 +9,7 @@ use lib.ListN.{length, getD}
 use borrow.Author.Tests.{le-leb, lt-leb}
 use Rattle.paper.specs.Label.{Label}
 use Rattle.paper.specs.Chain.{Boards, noBoard, lookFrom, placeOf}
-use Rattle.paper.proofs.Places.{Looked, missing, found, looked, place-most, place-stays, place-behind}
+use Rattle.follows.proofs.Places.{Looked, missing, found, looked, place-most, place-stays, place-behind}
 use Rattle.places.specs.Places.{placesOf}
 use Rattle.places.proofs.Filled.{padded-long, places-at}
 

@@ -19,12 +19,12 @@ use Rattle.paper.specs.Kind.{ohms, partOver}
 use Rattle.paper.specs.File.{markOf, boardOf, boardsOf, recordsOf}
 use Rattle.paper.specs.Chain.{Boards, lookFrom, placeOf, feederOf, Z1, Z2, Z0, turnOf}
 use Rattle.paper.specs.Refusal.{sumWrong, recordsRefusal, recordRefusal, theRecord}
-use Rattle.paper.proofs.Places.{place-most}
+use Rattle.follows.proofs.Places.{place-most}
 use Rattle.paper.specs.Bounds.{AtMost}
-use Rattle.paper.proofs.Chain.{Z1-none, Z2-none, turn-none, ZeroIs, is-none}
-use Rattle.paper.proofs.Before.{feeder-before, start-before, turn-before, Z1-before, Z2-before, Z0-before}
-use Rattle.paper.proofs.Fit.{Fit, fit}
-use Rattle.paper.proofs.Sound.{SoundAt, Sound, sound-none, sound-next, Tested, turn-small}
+use Rattle.follows.proofs.Chain.{Z1-none, Z2-none, turn-none, ZeroIs, is-none}
+use Rattle.follows.proofs.Before.{feeder-before, start-before, turn-before, Z1-before, Z2-before, Z0-before}
+use Rattle.follows.proofs.Fit.{Fit, fit}
+use Rattle.follows.proofs.Sound.{SoundAt, Sound, sound-none, sound-next, Tested, turn-small}
 use Rattle.node.specs.declared.Node.{Node}
 use Rattle.inspect.specs.declared.Step.{Step}
 use Rattle.node.specs.Node.{nodeOf, nodeFrom, nodeOver, noNode, UpSmall}

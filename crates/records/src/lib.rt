@@ -6,7 +6,6 @@ ghost use Rattle.paper.specs.File.{headOf, boardsOf};
 ghost use Rattle.places.specs.Places.{placesOf};
 ghost use Rattle.node.specs.Tables.{table, emptyBoard};
 ghost use Rattle.records.specs.Judgement.{Judgement};
-use feed::sums::no_node;
 use field::u16_at;
 use inspect::rules::earlier;
 use inspect::rules::step;
@@ -14,6 +13,7 @@ use node::Node;
 use node::index;
 use paper::Board;
 use places::Places;
+use sum_rules::no_node;
 
 // The records judged: the number and the place of the first that is refused, or 0, 0 and all nodes.
 pub struct Judged {

@@ -1,16 +1,10 @@
 -- Laws of the root, for the proofs here and in the crates above.
-use mathlib.Core.Bool.{Bool}
-use mathlib.Core.Path.{_≡_, _∙_, ap}
+use mathlib.Core.Path.{_≡_}
 use Prim.Native.Nat.{ℕ, zero, suc, _+_, _*_, _≤_, _<_}
 use native.Mathlib.Nat.{le-trans, le-of-lt, le-antisymm, lt-of-le-of-lt, lt-of-not-le, not-le-of-lt, mul-le-mul, mul-le-mul-left, mul-le-mul-right, mul-lt-mul-of-pos-right}
 use native.Mathlib.Decide.{decLe}
 use native.Mathlib.Omega.{arith}
-use lib.Dec.{leb}
 use Rattle.root.specs.Root.{Root}
-
--- equal numbers are compared alike
-pub compared : (most : ℕ) {r : Bool} {m n : ℕ} → r ≡ leb m most → m ≡ n → r ≡ leb n most
-compared most h e = h ∙ ap (λ (m : ℕ). leb m most) e
 
 square-le : {a b : ℕ} (den : ℕ) → a ≤ b → a * a * den ≤ b * b * den
 square-le den h = mul-le-mul-right den (mul-le-mul h h)

@@ -9,7 +9,7 @@ use lib.Dec.{T as Holds}
 use lib.ListN.{length, getD, drop, drop-of-length-le}
 use Rattle.paper.specs.Label.{Label, sameLabel}
 use Rattle.paper.specs.Chain.{Boards, noBoard, lookFrom, placeOf}
-use Rattle.paper.proofs.Places.{look-here, look-there}
+use Rattle.follows.proofs.Places.{look-here, look-there}
 
 -- ---- looking from i on
 drop-at : (ys : Boards) (i : ℕ) → i < length ys → drop i ys ≡ getD ys i noBoard ∷ drop (suc i) ys

@@ -1,3 +1,2 @@
 -- Theorems about one pass over the records. None needs believing.
-pub mod Climb
 pub mod Pass

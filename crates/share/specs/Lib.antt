@@ -1,2 +1,2 @@
--- What the contracts of one pass over the records cite beside the paper's own definitions.
+-- What the contracts of what is shared cite beside the paper's own definitions.
 pub mod Share

@@ -16,8 +16,8 @@ use Rattle.paper.specs.Rows.{Test, test, Row, row, rowsAt, first, _then_}
 use Rattle.paper.specs.Refusal.{theRecord, headRows, recordRefusal, recordsRefusal, networkRefusal, faultRows, refusal}
 use Rattle.paper.specs.Phase.{asked}
 use Rattle.paper.specs.Answer.{accepted, refused, answer, verdict}
-use Rattle.paper.proofs.Rows.{clear}
-use Rattle.paper.proofs.Accepted.{accepted-network, accepted-fault}
+use Rattle.follows.proofs.Rows.{clear}
+use Rattle.follows.proofs.Accepted.{accepted-network, accepted-fault}
 use Rattle.node.proofs.Records.{recs-length}
 use Rattle.show.specs.Shown.{Within}
 

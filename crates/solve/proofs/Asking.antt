@@ -8,7 +8,7 @@ use lib.ListN.{take}
 use Rattle.paper.specs.declared.Refusal.{Refusal}
 use Rattle.paper.specs.Chain.{Boards}
 use Rattle.paper.specs.Refusal.{networkRefusal}
-use Rattle.paper.proofs.Accepted.{accepted-network}
+use Rattle.follows.proofs.Accepted.{accepted-network}
 use Rattle.node.specs.Node.{noNode}
 use Rattle.node.specs.Tables.{table, nodesFrom, nodesOf}
 use Rattle.network.specs.Network.{judged, networkOf}

@@ -13,7 +13,7 @@ use Rattle.paper.specs.Refusal.{refusal}
 use Rattle.paper.specs.Phase.{Asked, asked, theD}
 use Rattle.paper.specs.Amps.{ampsOver, ampsUnder, amps}
 use Rattle.paper.specs.Answer.{numbers}
-use Rattle.paper.proofs.Given.{question, network, z1-not-zero, z2-not-zero}
+use Rattle.follows.proofs.Given.{question, network, z1-not-zero, z2-not-zero}
 use Rattle.amps.proofs.Exact.{factorOf, voltsSquare, amps-exact, amps-only}
 use Rattle.fits.proofs.Sizes.{Ranged}
 use Rattle.fits.proofs.Fits.{Smalls, SumsSmall, numbers-fit}

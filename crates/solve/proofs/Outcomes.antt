@@ -16,14 +16,15 @@ use Rattle.paper.specs.Refusal.{theRecord, networkRefusal, faultRows, answerSiz
 use Rattle.paper.specs.Phase.{asked}
 use Rattle.paper.specs.Amps.{amps}
 use Rattle.paper.specs.Answer.{numbers, accepted, refused}
-use Rattle.paper.proofs.Accepted.{boards-length}
-use Rattle.paper.proofs.Given.{question}
+use Rattle.follows.proofs.Accepted.{boards-length}
+use Rattle.follows.proofs.Given.{question}
 use Rattle.network.specs.declared.Network.{Network}
 use Rattle.paper.specs.declared.Outcome.the-variants.{Accepted, Refused}
 use Rattle.network.specs.Network.{acceptedNetwork, judged, networkOf}
 use Rattle.network.proofs.Whole.{first-boards}
-use Rattle.ask.specs.declared.Question.{Question}
-use Rattle.ask.specs.Ask.{acceptedQuestion, askOf}
+use Rattle.question.specs.declared.Question.{Question}
+use Rattle.question.specs.Question.{acceptedQuestion}
+use Rattle.ask.specs.Ask.{askOf}
 use Rattle.ask.proofs.Laws.{never, kept, broken}
 use Rattle.answer.specs.Posed.{Posed}
 use Rattle.solve.proofs.Ready.{accepted-ready}

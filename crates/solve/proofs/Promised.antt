@@ -14,8 +14,8 @@ use Rattle.paper.specs.File.{boardsOf}
 use Rattle.paper.specs.Refusal.{answerSize, refusal}
 use Rattle.paper.specs.Phase.{Asked, asked, phases, faultCurrents}
 use Rattle.paper.specs.Answer.{flat, numbers, after, written, accepted, refused, answer, verdict}
-use Rattle.paper.proofs.Given.{question}
-use Rattle.pass.proofs.Pass.{boards-length}
+use Rattle.follows.proofs.Given.{question}
+use Rattle.follows.proofs.Laid.{boards-size}
 
 -- ---- "two results that its contract allows are proved equal": r and out are what a call may return and leave
 abbrev pub Allowed : List ℕ → List ℕ → List ℤ → Answer → List ℤ → Type 0
@@ -38,7 +38,7 @@ module _ (net flt : List ℕ) {why : Refusal} where
 -- thirteen of the fault, and 24 of each board
 pub numbers-length : (q : Asked) → length (numbers q) ≡ answerSize (length (q .boards))
 unfolding numbers flat faultCurrents phases
-numbers-length q = omega (arith, boards-length q 1 (length (q .boards)))
+numbers-length q = omega (arith, boards-size q 1 (length (q .boards)))
 
 module _ (net flt : List ℕ) where
   pub accepted-verdict : (room : ℕ) → refusal net flt room ≡ none → verdict net flt room ≡ accepted (asked net flt)

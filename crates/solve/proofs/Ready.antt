@@ -8,8 +8,8 @@ use lib.ListN.{length}
 use Rattle.paper.specs.File.{boardsOf}
 use Rattle.paper.specs.Refusal.{refusal}
 use Rattle.paper.specs.Phase.{asked}
-use Rattle.paper.proofs.Sound.{turn-small}
-use Rattle.paper.proofs.Given.{question, network, z1-not-zero, z2-not-zero}
+use Rattle.follows.proofs.Sound.{turn-small}
+use Rattle.follows.proofs.Given.{question, network, z1-not-zero, z2-not-zero}
 use Rattle.pass.specs.Ready.{SumsIn, Ready}
 
 module _ (net flt : List ℕ) (room : ℕ) (accepted : refusal net flt room ≡ none) where

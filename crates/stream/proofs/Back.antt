@@ -1,44 +1,19 @@
--- What the bytes of an answer tell: a number from its bytes, a signed one from its word, and so all elements. Assumes nothing.
+-- What the bytes of an answer tell: all elements. Assumes nothing.
 use mathlib.Core.Path.{_≡_, refl, sym, ap, _∙_}
 use mathlib.Core.List.{List, [], _∷_, _++_}
-use Prim.Native.Nat.{ℕ, zero, suc, _+_, _-_, _*_, _/_, _%_, _^_, _≤_, _<_}
+use Prim.Native.Nat.{ℕ}
 use native.Mathlib.Omega.{arith}
-use lib.IntN.{ℤ, pos, negsuc}
+use lib.IntN.{ℤ}
 use lib.ListN.{length, take, drop}
 use lib.Seq.{take-append-seam, drop-append-seam}
 use mir.Syntax.{w64}
 use mir.Val.{SFits}
-use Rattle.stream.specs.Layout.{little, wordOf, elementsOf}
-use Rattle.stream.proofs.Pieces.{little-length, elements-length}
+use Rattle.little.specs.Little.{little, wordOf}
+use Rattle.little.proofs.Stored.{little-length}
+use Rattle.little.proofs.Back.{same-number, word-fits, same-word}
+use Rattle.stream.specs.Layout.{elementsOf}
+use Rattle.stream.proofs.Pieces.{elements-length}
 
--- ---- a number
--- of some bytes, the lowest first
-unfoldable pub valueOf : List ℕ → ℕ
-valueOf [] = 0
-valueOf (b ∷ bs) = b + 256 * valueOf bs
-
-pub little-back : (k n : ℕ) → n < 256 ^ k → valueOf (little k n) ≡ n
-unfolding valueOf little
-little-back zero n h = omega arith
-little-back (suc k) n h = ap (λ (m : ℕ). n % 256 + 256 * m) (little-back k (n / 256) (omega arith)) ∙ omega arith
-
-pub same-number : (k m n : ℕ) → m < 256 ^ k → n < 256 ^ k → little k m ≡ little k n → m ≡ n
-same-number k m n hm hn e = sym (little-back k m hm) ∙ ap valueOf e ∙ little-back k n hn
-
--- ---- a signed one
-word-fits : (z : ℤ) → SFits w64 z → wordOf z < 256 ^ 8
-unfolding wordOf
-word-fits (pos n) f = omega (arith, f .sfits)
-word-fits (negsuc n) f = omega (arith, f .sfits)
-
-pub same-word : (y z : ℤ) → SFits w64 y → SFits w64 z → wordOf y ≡ wordOf z → y ≡ z
-unfolding wordOf
-same-word (pos m) (pos n) f g e = ap pos e
-same-word (pos m) (negsuc n) f g e = absurd (omega (arith, f .sfits, g .sfits, e))
-same-word (negsuc m) (pos n) f g e = absurd (omega (arith, f .sfits, g .sfits, e))
-same-word (negsuc m) (negsuc n) f g e = let same : m ≡ n = omega (arith, f .sfits, g .sfits, e) in ap negsuc same
-
--- ---- all elements
 abbrev pub AllFit : List ℤ → Type 0
 AllFit [] = Unit {0}
 AllFit (z ∷ zs) = SFits w64 z × AllFit zs

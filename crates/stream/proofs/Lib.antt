@@ -2,6 +2,3 @@
 pub mod Pieces
 -- what they tell
 pub mod Back
--- how many marks there are
-pub mod Marks
-mod Bits

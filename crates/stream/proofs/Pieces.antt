@@ -1,42 +1,21 @@
 -- The layout piece by piece, as the code lays it down. Assumes nothing.
 use mathlib.Core.Path.{_≡_, refl, sym, ap, _∙_}
 use mathlib.Core.List.{List, [], _∷_, _++_}
-use Prim.Native.Nat.{ℕ, zero, suc, _+_, _*_, _/_, _%_, _≤_, _<_}
+use Prim.Native.Nat.{ℕ, suc, _+_, _*_, _≤_, _<_}
 use native.Mathlib.Numerals.{add-one}
 use native.Mathlib.Omega.{arith}
 use lib.IntN.{ℤ, pos}
-use lib.ListN.{length, drop, getD, set, length-append, drop-of-length-le}
+use lib.ListN.{length, drop, getD, length-append, drop-of-length-le}
 use lib.Seq.{drop-cons}
 use mir.Syntax.{w64}
 use mir.Val.{SFits}
 use mir.Facts.{toZ-ofZ}
 use Rattle.lemmas.proofs.Words.{kept}
-use Rattle.decimal.specs.Wrote.{Room, Wrote}
-use Rattle.decimal.proofs.Writes.{Left, left-all, left-then, left-none, wrote-byte}
 use Rattle.paper.specs.declared.Part.{Part}
 use Rattle.paper.specs.declared.Answer.{Answer}
-use Rattle.stream.specs.Layout.{little, wordOf, whoseOf, partOf, foundOf, headOf, elementsOf, bytesOf}
-
--- ---- a number's bytes
-pub little-length : (k n : ℕ) → length (little k n) ≡ k
-unfolding little
-little-length zero n = refl
-little-length (suc k) n = ap suc (little-length k (n / 256))
-
--- a byte stored in front of what is left
-left-byte : {at mid next b : ℕ} {s o u o′ : List ℕ} → Left at s o mid (b ∷ u) o′ → next ≡ mid + 1 → Left at s o next u (set o′ mid b)
-left-byte {mid = mid} {b = b} {o′ = o′} l e =
-    left-then {t = b ∷ []} l (record { stands = wrote-byte mid b o′ (omega (arith, l .room .fits)) .stands; behind = e })
-
--- four, stored one behind the other
-pub four-stored : (at n : ℕ) (o : List ℕ) → Room at (little 4 n) o
-    → Wrote at (little 4 n) o (set (set (set (set o at (n % 256)) (at + 1) (n / 256 % 256)) (at + 2) (n / 256 / 256 % 256)) (at + 3) (n / 256 / 256 / 256 % 256)) (at + 4)
-unfolding little
-four-stored at n o r = left-none (left-byte (left-byte (left-byte (left-byte (left-all r) refl) (omega arith)) (omega arith)) (omega arith))
-
-pub eight-pieces : (n : ℕ) → little 8 n ≡ little 4 n ++ little 4 (n / 256 / 256 / 256 / 256)
-unfolding little
-eight-pieces n = refl
+use Rattle.little.specs.Little.{little, wordOf}
+use Rattle.little.proofs.Stored.{little-length}
+use Rattle.stream.specs.Layout.{whoseOf, partOf, foundOf, headOf, elementsOf, bytesOf}
 
 -- ---- an answer's
 pub part-pieces : (p : Part) {w : ℕ} → w ≡ whoseOf (p .whose) → partOf p ≡ little 4 w ++ (little 4 (p .start) ++ little 4 (p .len))

@@ -1,2 +1,2 @@
--- the bytes of a stream of cases and their answers
+-- the bytes of an answer in a stream
 pub mod Layout

@@ -1,90 +1,14 @@
-// The bytes of a stream of cases: a case's three numbers read, its buffer marked, and an answer laid down in a lent buffer.
+// The bytes of an answer in a stream of answers, laid down in a lent buffer.
 // Each `put_..` writes from a place on and returns the place behind.
 ghost use mathlib.Core.Path.{_≡_};
-ghost use Prim.Native.Nat.{_+_, _<_, _≤_};
-ghost use lib.ListN.{length};
 ghost use Rattle.decimal.specs.Wrote.{Room, Wrote};
-ghost use Rattle.stream.specs.Layout.{u32At, caseOf, marks, little, wordOf, whoseOf, partOf, foundOf, headOf, elementsOf, bytesOf};
-use decimal::magnitude;
-use field::u16_at;
+ghost use Rattle.stream.specs.Layout.{whoseOf, partOf, foundOf, headOf, elementsOf, bytesOf};
+use little::put_eight;
+use little::put_four;
+use little::word;
 use paper::Answer;
 use paper::Lent;
 use paper::Part;
-
-// What a case says of itself: the elements of its buffer, and the bytes of its network and of its fault.
-pub struct Case {
-    pub room: usize,
-    pub net: usize,
-    pub flt: usize,
-}
-
-fn u32_at(s: &[u8], i: usize) -> usize
-    requires { ⌜ i + 3 < length (now s) ⌝ }
-    ensures { λ r. ⌜ r ≡ u32At (now (s .entry)) i ⌝ }
-{
-    let low = u16_at(s, i) as usize;
-    let high = u16_at(s, i + 2) as usize;
-    low + 65536 * high
-}
-
-pub fn case_of(s: &[u8]) -> Case
-    requires { ⌜ length (now s) ≡ 12 ⌝ }
-    ensures { λ r. ⌜ r ≡ caseOf (now (s .entry)) ⌝ }
-{
-    let room = u32_at(s, 0);
-    let net = u32_at(s, 4);
-    let flt = u32_at(s, 8);
-    Case { room, net, flt }
-}
-
-// Marks every element, so that one sees afterwards what was not written.
-pub fn mark(buffer: &mut [i64])
-    requires { ⌜ length (now buffer) ≤ 6400 ⌝ }
-    ensures { λ _. ⌜ now (buffer .exit) ≡ marks (length (now (buffer .entry))) ⌝ }
-{
-    let mut i: usize = 0;
-    while i < buffer.len() {
-        let next = i + 1;
-        let m = 1000003 * next;
-        buffer[i] = m as i64;
-        i = next;
-    }
-}
-
-// The four low bytes. Written out, so that they become one store.
-fn put_four(out: &mut [u8], at: usize, n: u64) -> usize
-    requires { ⌜ Room at (little 4 n) (now out) ⌝ }
-    ensures { λ r. ⌜ Wrote at (little 4 n) (now (out .entry)) (now (out .exit)) r ⌝ }
-{
-    let n1 = n / 256;
-    let n2 = n1 / 256;
-    let n3 = n2 / 256;
-    out[at] = (n % 256) as u8;
-    out[at + 1] = (n1 % 256) as u8;
-    out[at + 2] = (n2 % 256) as u8;
-    out[at + 3] = (n3 % 256) as u8;
-    at + 4
-}
-
-fn put_eight(out: &mut [u8], at: usize, n: u64) -> usize
-    requires { ⌜ Room at (little 8 n) (now out) ⌝ }
-    ensures { λ r. ⌜ Wrote at (little 8 n) (now (out .entry)) (now (out .exit)) r ⌝ }
-{
-    let high = n / 256 / 256 / 256 / 256;
-    let a = put_four(out, at, n);
-    put_four(out, a, high)
-}
-
-// -1 is the greatest, and so on down.
-fn word(z: i64) -> u64
-    ensures { λ r. ⌜ r ≡ wordOf z ⌝ }
-{
-    let m = magnitude(z);
-    if z < 0 {
-        return u64::MAX - (m - 1);
-    }
-    m
-}
 
 fn whose(lent: Lent) -> u64
     ensures { λ r. ⌜ r ≡ whoseOf lent ⌝ }

@@ -9,6 +9,7 @@ use Rattle.paper.specs.declared.Fault.{Fault}
 use Rattle.paper.specs.Chain.{Boards}
 use Rattle.paper.specs.Phase.{Asked, theD, phases, faultCurrents, boardVoltages, recordCurrents}
 use Rattle.paper.specs.Answer.{flat, ofBoard, ofBoards, numbers}
+use Rattle.follows.proofs.Laid.{boards-size}
 use Rattle.lines.specs.Lines.{fours}
 use Rattle.board_lines.specs.Boards.{boardLines, boardLying, boardsLying}
 use Rattle.text.specs.Text.{topLines, boardsLines}
@@ -20,11 +21,6 @@ module _ (q : Asked) (rest : List ℤ) where
   unfolding topLying fours numbers flat faultCurrents phases
   top-lying f n = refl
 
-  -- "The 24 numbers of board r start at place 13 + 24(r - 1)"
-  pub behind-top : drop 13 (numbers q ++ rest) ≡ ofBoards q 1 (length (q .boards)) ++ rest
-  unfolding numbers flat faultCurrents phases
-  behind-top = refl
-
   board-lying : (l : List ℕ) (r : ℕ) (more : List ℤ) → boardLying l (ofBoard q r ++ more) ≡ boardLines l (boardVoltages q r) (recordCurrents q r)
   unfolding boardLying fours ofBoard flat boardVoltages recordCurrents phases
   board-lying l r more = refl
@@ -32,10 +28,6 @@ module _ (q : Asked) (rest : List ℤ) where
   behind-board : (r : ℕ) (more : List ℤ) → drop 24 (ofBoard q r ++ more) ≡ more
   unfolding ofBoard flat boardVoltages recordCurrents phases
   behind-board r more = refl
-
-  board-size : (r : ℕ) → length (ofBoard q r) ≡ 24
-  unfolding ofBoard flat boardVoltages recordCurrents phases
-  board-size r = refl
 
   pub boards-lying : (r : ℕ) (bs : Boards) → boardsLying bs (ofBoards q r (length bs) ++ rest) ≡ boardsLines q r bs
   unfolding boardsLying ofBoards boardsLines
@@ -47,11 +39,6 @@ module _ (q : Asked) (rest : List ℤ) where
       ∙ ap (λ (x : List ℕ). x ++ boardsLying bs more) (board-lying (b .label) r more)
       ∙ ap (λ (x : List ℕ). boardLines (b .label) (boardVoltages q r) (recordCurrents q r) ++ x) (boards-lying (suc r) bs)
 
-  boards-size : (r n : ℕ) → length (ofBoards q r n) ≡ 24 * n
-  unfolding ofBoards
-  boards-size r zero = refl
-  boards-size r (suc n) = length-append (ofBoard q r) (ofBoards q (suc r) n) ∙ (omega (arith, board-size r, boards-size (suc r) n))
-
   pub numbers-size : 13 + 24 * length (q .boards) ≤ length (numbers q ++ rest)
   unfolding numbers flat faultCurrents phases
-  numbers-size = omega (arith, boards-size 1 (length (q .boards)), length-append (ofBoards q 1 (length (q .boards))) rest)
+  numbers-size = omega (arith, boards-size q 1 (length (q .boards)), length-append (ofBoards q 1 (length (q .boards))) rest)

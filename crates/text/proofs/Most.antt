@@ -14,7 +14,7 @@ use Rattle.paper.specs.Chain.{Boards}
 use Rattle.paper.specs.Refusal.{refusal}
 use Rattle.paper.specs.Phase.{Asked, asked, theD, phase, phases, four, faultCurrents, boardVoltages, recordCurrents}
 use Rattle.paper.specs.Amps.{amps}
-use Rattle.paper.proofs.Accepted.{accepted-network, accepted-fault}
+use Rattle.follows.proofs.Accepted.{accepted-network, accepted-fault}
 use Rattle.decimal.specs.Decimal.{signed, row}
 use Rattle.decimal.proofs.Decimal.{decimal-most}
 use Rattle.name.specs.Name.{unspaced}

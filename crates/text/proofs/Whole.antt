@@ -13,13 +13,14 @@ use Rattle.paper.specs.Refusal.{refusal, answerSize}
 use Rattle.paper.specs.Phase.{Asked, asked, theD, faultCurrents}
 use Rattle.paper.specs.Amps.{amps}
 use Rattle.paper.specs.Answer.{numbers, after, written, accepted, refused, answer, verdict}
-use Rattle.paper.proofs.Accepted.{Network, Question, accepted-network, accepted-fault, boards-length}
+use Rattle.follows.proofs.Accepted.{Network, Question, accepted-network, accepted-fault, boards-length}
 use Rattle.lines.specs.Lines.{refusedText}
 use Rattle.board_lines.specs.Boards.{boardsLying}
+use Rattle.follows.proofs.Laid.{behind-top}
 use Rattle.text.specs.Text.{topLines, boardsLines, acceptedText, textOf, room, printed}
 use Rattle.text.specs.Lying.{topLying, Answered}
 use Rattle.text.proofs.Numbered.{refusal-number}
-use Rattle.text.proofs.Lying.{top-lying, behind-top, boards-lying, numbers-size}
+use Rattle.text.proofs.Lying.{top-lying, boards-lying, numbers-size}
 
 module _ (net flt : List ℕ) {a : Answer} (v : a ≡ verdict net flt room) where
   q : Asked

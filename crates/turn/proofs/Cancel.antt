@@ -1,17 +1,18 @@
--- No number but 0 is carried to 0 by a positive whole number, or by an R + jX that is not 0. Assumes nothing.
+-- No number but 0 is carried to 0 by a positive whole number, or by an R + jX that is not 0; so they cancel, and so does a turn. Assumes nothing.
+use mathlib.Core.List.{[], _∷_}
 use mathlib.Core.Path.{_≡_, refl, sym, _∙_, ap, ap₂}
 use Prim.Native.Nat.{ℕ, zero, suc, _+_, _*_}
 use lib.IntN.{ℤ, pos, natAbs, _+ℤ_}
 use Rattle.lemmas.proofs.Ring.{sub-zer, mul-zer}
-use Rattle.lemmas.proofs.Solver.{_⊗_, _⊖_}
-use Rattle.lemmas.proofs.Solve.{solve}
+use Rattle.lemmas.proofs.Solver.{con, _⊗_, _⊖_, eqn}
+use Rattle.lemmas.proofs.Solve.{solve, solveBy}
 use Rattle.lemmas.proofs.Distance.{square-pos, squares-zero}
 use Rattle.lemmas.proofs.Cancel.{no-zero}
 use Rattle.turn.specs.declared.Num.{Num}
-use Rattle.turn.specs.Number.{wholeN, complexN, _-N_, _·N_, _*N_, conjN, squareN}
+use Rattle.turn.specs.Number.{wholeN, complexN, oneN, powerN, turnN, timesT, _+N_, _-N_, _·N_, _*N_, conjN, squareN}
 use Rattle.turn.proofs.Form.{alike}
 use Rattle.turn.proofs.Ring.{Nring, whole-times}
-use Rattle.turn.proofs.Conj.{complex-square}
+use Rattle.turn.proofs.Conj.{complex-square, turn-absolute}
 
 multiple-zero : (k : ℕ) (u : Num) → pos (suc k) ·N u ≡ wholeN (pos 0) → u ≡ wholeN (pos 0)
 unfolding _·N_
@@ -52,3 +53,10 @@ cancel-whole k u v h = sub-zer Nring u v (no-zero-whole k (u -N v) (apart (whole
 
 pub cancel-complex : (r x : ℤ) (u v : Num) → (complexN r x ≡ wholeN (pos 0) → ⊥) → complexN r x *N u ≡ complexN r x *N v → u ≡ v
 cancel-complex r x u v other h = sub-zer Nring u v (no-zero-complex r x (u -N v) other (apart (complexN r x) u v h))
+
+-- a turn cancels: times its conjugate it is one
+pub turn-cancels : (n : ℕ) (x y : Num) → turnN n x ≡ turnN n y → x ≡ y
+unfolding powerN timesT conjN _+N_ _·N_
+turn-cancels n x y h =
+    solveBy Nring 4 (λ t c x y. eqn (y ⊖ x) (t ⊗ con (pos 1) ⊗ c) (con (pos 1) ⊗ con (pos 1)) ∷ eqn c (t ⊗ x) (t ⊗ y) ∷ []) (λ t c x y. x) (λ t c x y. y) tt
+    (powerN n) (conjN (turnN n oneN)) x y (turn-absolute n oneN, (h, tt))

@@ -2,7 +2,7 @@
 use mathlib.Core.Path.{_≡_, refl}
 use Prim.Native.Nat.{ℕ}
 use Rattle.paper.specs.Kind.{none, kinds, kindOf}
-use Rattle.paper.proofs.KindTable.{each-row}
+use Rattle.follows.proofs.KindTable.{each-row}
 
 -- none, where no earlier arm of the match took the kind
 abbrev Others : ℕ → Type 0

@@ -7,7 +7,7 @@ use mir.Facts.{toZ-ofZ}
 use Rattle.lemmas.specs.Small.{Small}
 use Rattle.paper.specs.Bounds.{mostD}
 use Rattle.paper.specs.Phase.{voltageOf}
-use Rattle.board.specs.Faulted.{leftOf}
+use Rattle.board.specs.Numbers.{leftOf}
 use Rattle.board.proofs.left.Statement.{statement}
 use Rattle.board.proofs.left.Tie as tie
 

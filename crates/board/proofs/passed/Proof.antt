@@ -1,6 +1,6 @@
 -- `board::passed` meets its contract: I0 passes where the zero-sequence sum is the faulted board's. Assumes nothing.
 use borrow.Author.Needs.{needs}
-use Rattle.board.specs.Faulted.{passedOf}
+use Rattle.board.specs.Numbers.{passedOf}
 use Rattle.board.proofs.passed.Statement.{statement}
 use Rattle.board.proofs.passed.Tie as tie
 

@@ -3,7 +3,7 @@ use mathlib.Core.Path.{_≡_, ap₂, _∙_}
 use borrow.Author.Needs.{needs}
 use Rattle.turn.specs.Number.{_+N_, _*N_}
 use Rattle.paper.specs.Fault.{Δ}
-use Rattle.paper.proofs.Row.{GOf}
+use Rattle.follows.proofs.Row.{GOf}
 use Rattle.fits.proofs.Needs.{ForΔ, for-Δ, within-is}
 use Rattle.fits.proofs.Sizes.{ranged}
 use Rattle.divisor.proofs.delta.Statement.{statement}

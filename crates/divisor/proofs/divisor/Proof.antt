@@ -5,7 +5,7 @@ use borrow.Author.Needs.{needs}
 use Rattle.turn.specs.Number.{powerN, _+N_}
 use Rattle.sum.specs.Bounds.{Addable}
 use Rattle.paper.specs.Fault.{Short, shorts, shortOf}
-use Rattle.paper.proofs.Row.{GOf, no-row}
+use Rattle.follows.proofs.Row.{GOf, no-row}
 use Rattle.fits.proofs.Needs.{for-G, ForSums, for-sums, within-is}
 use Rattle.fits.proofs.Sizes.{ranged}
 use Rattle.divisor.proofs.divisor.Statement.{statement}

@@ -5,7 +5,7 @@ use borrow.Author.Needs.{needs}
 use Rattle.turn.specs.Number.{oneN, powerN, _+N_, negN}
 use Rattle.paper.specs.Fault.{numOf, seq, shorts, shortOf}
 use Rattle.fits.proofs.Needs.{for-sums, for-Δ, within-is}
-use Rattle.paper.proofs.Row.{no-row}
+use Rattle.follows.proofs.Row.{no-row}
 use Rattle.fits.proofs.Sizes.{ranged}
 use Rattle.fault.proofs.above.Statement.{statement}
 use Rattle.fault.proofs.above.Tie as tie

@@ -8,7 +8,7 @@ use Rattle.turn.specs.declared.Num.{Num}
 use Rattle.turn.specs.Number.{_*N_, conjN, squareN}
 use Rattle.paper.specs.declared.Seq.{Seq}
 use Rattle.paper.specs.Fault.{seq, D, currents}
-use Rattle.paper.proofs.Row.{rowOf}
+use Rattle.follows.proofs.Row.{rowOf}
 use Rattle.fits.proofs.Needs.{ForCurrents, for-currents, within-is, factors-are}
 use Rattle.fits.proofs.Sizes.{ranged}
 use Rattle.fault.specs.declared.Shorted.{Shorted}

@@ -49,7 +49,7 @@ use denote.Exit.{yes}
 use Rattle.paper.specs.Label.{Label}
 use Rattle.paper.specs.Chain.{Boards, noBoard, placeOf}
 use Rattle.paper.specs.declared.Board.{Board}
-use Rattle.paper.proofs.Places.{place-most}
+use Rattle.follows.proofs.Places.{place-most}
 use Rattle.paper.proofs.Board as T
 use Rattle.paper.proofs.Board.Laws as T′
 use Rattle.places.specs.Places.{placesOf}

@@ -25,7 +25,7 @@ use Rattle.field.proofs.u16_at.Reads as u16-at-reads
 use Rattle.node.proofs.index.Reads as index-reads
 use Rattle.inspect.proofs.rules.earlier.Reads as earlier-reads
 use Rattle.inspect.proofs.rules.step.Reads as step-reads
-use Rattle.feed.proofs.sums.no_node.Reads as no-node-reads
+use Rattle.sum_rules.proofs.no_node.Reads as no-node-reads
 
 abbrev Inv-loop : tie.InvT-loop
 Inv-loop net n boards none own fed nodes₀ i₀ nodes i = (i ≤ n) × Read net i nodes

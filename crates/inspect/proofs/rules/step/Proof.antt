@@ -10,9 +10,9 @@ use Rattle.inspect.proofs.rules.step.Reads as reads
 use Rattle.inspect.proofs.rules.step.Lts as lts
 use Rattle.inspect.proofs.rules.broken.Reads as broken-reads
 use Rattle.inspect.proofs.rules.earlier.Reads as earlier-reads
-use Rattle.feed.proofs.sums.no_node.Reads as no-node-reads
+use Rattle.sum_rules.proofs.no_node.Reads as no-node-reads
 use Rattle.feed.proofs.sums.node_from.Reads as node-from-reads
-use Rattle.feed.proofs.sums.node_over.Reads as node-over-reads
+use Rattle.sum_rules.proofs.node_over.Reads as node-over-reads
 
 broken-requires : tie.Need-broken-requires
 broken-requires c κs = search needs

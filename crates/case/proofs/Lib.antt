@@ -1,0 +1,2 @@
+-- how many marks there are
+pub mod Marks

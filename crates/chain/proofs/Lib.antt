@@ -1,0 +1,2 @@
+-- Theorems about the chain, climbed. None needs believing.
+pub mod Climb

@@ -1,0 +1,21 @@
+// Which records lie on the faulted board's chain.
+ghost use mathlib.Core.Path.{_≡_};
+ghost use Prim.Native.Nat.{_≤_};
+ghost use Rattle.chain.specs.Marked.{FromEarlier, marksOf};
+use node::Node;
+
+// The records on the chain of board k, marked.
+pub fn chain(nodes: [Node; 256], k: usize) -> [bool; 256]
+    requires { ⌜ (k ≤ 256) × FromEarlier nodes ⌝ }
+    ensures { λ r. ⌜ r ≡ marksOf nodes k ⌝ }
+{
+    let mut on = [false; 256];
+    let mut at = k;
+    while at != 0 {
+        let i = at - 1;
+        on[i] = true;
+        let node = nodes[i];
+        at = node.feeder as usize;
+    }
+    on
+}

@@ -1,0 +1,2 @@
+-- A theorem about three phases' numbers. It needs no believing.
+pub mod Twelve

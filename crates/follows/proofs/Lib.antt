@@ -1,0 +1,30 @@
+-- What follows from the paper's definitions, for the crates above. None needs believing.
+-- impedances, lists of places
+pub mod Impedance
+pub mod Lists
+pub mod Paths
+-- the place of a label
+pub mod Places
+-- the chain, record by record
+pub mod Chain
+pub mod Before
+pub mod Next
+pub mod Shared
+pub mod Earth
+-- the kind table, row by row
+pub mod KindTable
+-- what the tests of the refusal table give
+pub mod Rows
+pub mod Fit
+pub mod Sound
+pub mod Accepted
+-- the numbers R + jX, bare
+pub mod Flat
+-- the fault table: its rows, D as a natural number, the divisor
+pub mod Row
+pub mod Square
+pub mod Divisor
+-- where the answer's numbers lie
+pub mod Laid
+-- all that acceptance gives of a question
+pub mod Given

@@ -1,0 +1,2 @@
+-- a number's bytes
+pub mod Little

@@ -1,0 +1,3 @@
+-- What the proofs of the functions cite.
+-- the kind table, row by row
+mod Rows
