@@ -56,17 +56,17 @@ static void phases(cx *out, int p, int d, const sequences *x) {
     }
 }
 
-static void put_board(cx *out, const shared *s, int d, int on, int earth, const sequences *i, int p) {
-    sequences w = {1 - of(s->z1) * i->s1, -of(s->z2) * i->s2, -of(s->z0) * i->s0};
-    phases(out, p, d, &w);
-    if (!on) {
+static void put_board(cx *out, const standing *b, const sequences *i, int p) {
+    sequences w = {1 - of(b->s.z1) * i->s1, -of(b->s.z2) * i->s2, -of(b->s.z0) * i->s0};
+    phases(out, p, b->d, &w);
+    if (!b->on) {
         memset(out + 3, 0, 3 * sizeof *out);
         return;
     }
     sequences c = *i;
-    if (!earth)
+    if (!b->earth)
         c.s0 = 0;
-    phases(out + 3, p, d, &c);
+    phases(out + 3, p, b->d, &c);
 }
 
 static uint64_t amps(const network *w, const fault *f, const sequences *i) {
@@ -78,15 +78,12 @@ static uint64_t amps(const network *w, const fault *f, const sequences *i) {
 }
 
 static void put_boards(cx *out, const network *w, const fault *f, const sequences *i) {
-    const board *at = &w->boards[f->k - 1];
     uint8_t on[BOARDS];
     shared shares[BOARDS];
     mark_chain(on, w, f->k);
     for (size_t j = 0; j < w->n; j++) {
-        const board *b = &w->boards[j];
-        shares[j] = share(b, on[j], shares, at->start);
-        int d = (b->turn % 12 + 12 - at->turn % 12) % 12;
-        put_board(out + 3 + 6 * j, &shares[j], d, on[j], at->start && b->start == at->start, i, f->phase);
+        standing b = stands(w, f, on, shares, j);
+        put_board(out + 3 + 6 * j, &b, i, f->phase);
     }
 }
 

@@ -93,18 +93,18 @@ static void phases(int64_t *out, int p, int d, const sequences *x) {
     put_sum(out + 4 * ((p + 2) % 3), y0, by_4(y1), by_8(y2));
 }
 
-static void put_board(int64_t *out, const shared *s, int d, int on, int earth, int64_t D, const sequences *i, int p) {
-    plane drop = times(of(s->z1), i->s1);
-    sequences w = {{D - drop.r, -drop.x}, minus(times(of(s->z2), i->s2)), minus(times(of(s->z0), i->s0))};
-    phases(out, p, d, &w);
-    if (!on) {
+static void put_board(int64_t *out, const standing *b, int64_t D, const sequences *i, int p) {
+    plane drop = times(of(b->s.z1), i->s1);
+    sequences w = {{D - drop.r, -drop.x}, minus(times(of(b->s.z2), i->s2)), minus(times(of(b->s.z0), i->s0))};
+    phases(out, p, b->d, &w);
+    if (!b->on) {
         memset(out + 12, 0, 12 * sizeof *out);
         return;
     }
     sequences c = *i;
-    if (!earth)
+    if (!b->earth)
         c.s0 = (plane){0, 0};
-    phases(out + 12, p, d, &c);
+    phases(out + 12, p, b->d, &c);
 }
 
 /* The greatest n with n n den <= num: a guess in doubles, put right by whole numbers. */
@@ -122,15 +122,12 @@ static uint64_t amps(const network *w, const board *b, const fault *f, int64_t D
 }
 
 static void put_boards(int64_t *buffer, const network *w, const fault *f, const sequences *i) {
-    const board *at = &w->boards[f->k - 1];
     uint8_t on[BOARDS];
     shared shares[BOARDS];
     mark_chain(on, w, f->k);
     for (size_t j = 0; j < w->n; j++) {
-        const board *b = &w->boards[j];
-        shares[j] = share(b, on[j], shares, at->start);
-        int d = (b->turn % 12 + 12 - at->turn % 12) % 12;
-        put_board(buffer + RANJUPELI_NUMBERS(j), &shares[j], d, on[j], at->start && b->start == at->start, buffer[0], i, f->phase);
+        standing b = stands(w, f, on, shares, j);
+        put_board(buffer + RANJUPELI_NUMBERS(j), &b, buffer[0], i, f->phase);
     }
 }
 

@@ -148,4 +148,16 @@ static inline shared share(const board *b, int on, const shared *shares, uint16_
         s.z0 = (ohms){0, 0};
     return s;
 }
+
+/* What board j has to do with the faulted one: what they share, its turn against the other's (0 to 11), and whether its record lies on the other's chain, and on its zero-sequence sum. */
+typedef struct {
+    shared s;
+    int d, on, earth;
+} standing;
+
+static inline standing stands(const network *w, const fault *f, const uint8_t *on, shared *shares, size_t j) {
+    const board *at = &w->boards[f->k - 1], *b = &w->boards[j];
+    shares[j] = share(b, on[j], shares, at->start);
+    return (standing){shares[j], (b->turn % 12 + 12 - at->turn % 12) % 12, on[j], at->start && b->start == at->start};
+}
 #endif
