@@ -4,3 +4,4 @@ pub mod Squares
 pub mod Greatest
 pub mod Exact
 pub mod Asked
+mod RuledOut

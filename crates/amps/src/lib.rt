@@ -35,7 +35,7 @@ pub fn amps(volts: u16, unit: u16, z2: Ohms, d: i64, kind: u8) -> u64
     let u = unit as u64;
     let n = d as u64;
     root::root(
-        wide::product(factor(z2, kind), v * v),
-        wide::product(n, u * u),
+        root::wide::product(factor(z2, kind), v * v),
+        root::wide::product(n, u * u),
     )
 }

@@ -1,2 +1,2 @@
--- Theorems about the answer. None needs believing.
 pub mod Whole
+pub mod Boards

@@ -28,12 +28,12 @@ use Rattle.node.proofs.Tables.{nodes-length}
 use Rattle.amps.specs.Positive.{Positive}
 use Rattle.amps.proofs.Asked.{theD-positive, amps-are}
 use Rattle.chain.specs.Marked.{FromEarlier, marksOf}
-use Rattle.faulted.specs.declared.Faulted.{Faulted}
-use Rattle.faulted.specs.Faulted.{faultedFrom, topOf}
-use Rattle.pass.specs.Ready.{Ready}
-use Rattle.pass.specs.Passing.{Passing}
+use Rattle.board.specs.declared.front.Faulted.{Faulted}
+use Rattle.board.specs.Faulted.{faultedFrom, topOf}
+use Rattle.answer.specs.Ready.{Ready}
+use Rattle.answer.specs.Passing.{Passing}
 use Rattle.answer.specs.Posed.{Posed}
-use Rattle.pass.proofs.Pass.{in-table, here, faulted-is}
+use Rattle.answer.proofs.Boards.{in-table, here, faulted-is}
 
 -- ---- nodes in their table
 module _ (q : Asked) where

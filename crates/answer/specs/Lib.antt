@@ -1,2 +1,3 @@
--- What the contract of the answer cites beside the paper's own definitions.
+pub mod Passing
 pub mod Posed
+pub mod Ready

@@ -8,7 +8,7 @@ use Rattle.paper.specs.Phase.{Asked}
 use Rattle.node.specs.declared.Node.{Node}
 use Rattle.node.specs.Node.{noNode}
 use Rattle.node.specs.Tables.{table, nodesOf}
-use Rattle.pass.specs.Ready.{Ready}
+use Rattle.answer.specs.Ready.{Ready}
 
 module _ (q : Asked) where
   open Asked q using (head, boards, fault, k)

@@ -1,4 +1,6 @@
 // The answer in the caller's buffer: D and the fault's currents, then the 24 numbers of each board in file order.
+mod pass;
+
 ghost use mathlib.Core.Path.{_≡_};
 ghost use Prim.Native.Nat.{_≤_};
 ghost use lib.ListN.{length};
@@ -8,14 +10,14 @@ ghost use Rattle.paper.specs.Refusal.{answerSize};
 ghost use Rattle.paper.specs.Amps.{amps};
 ghost use Rattle.paper.specs.Answer.{numbers};
 ghost use Rattle.answer.specs.Posed.{Posed};
+use crate::pass::boards;
 use amps::amps;
+use board::front::fault_at;
+use board::front::top;
 use chain::chain;
-use faulted::fault_at;
-use faulted::top;
 use node::Node;
 use paper::Fault;
 use paper::Head;
-use pass::boards;
 
 // Of whatever question this is the head, the nodes, the fault and the faulted board's place: its amps, and its numbers from the front of the buffer.
 pub fn answer(head: Head, nodes: [Node; 256], fault: Fault, k: usize, out: &mut [i64]) -> u64

@@ -10,7 +10,7 @@ use Rattle.paper.specs.Chain.{Boards, placeOf}
 use Rattle.paper.specs.Rows.{first}
 use Rattle.paper.specs.Refusal.{faultRows}
 use Rattle.paper.specs.declared.Outcome.the-variants.{Accepted, Refused}
-use Rattle.question.specs.Question.{acceptedQuestion, asking}
+use Rattle.ask.specs.Question.{acceptedQuestion, asking}
 use Rattle.ask.specs.Ask.{askOf}
 
 pub never : {A : Type 0} {r : Refusal} → Refused r ≡ Accepted → A

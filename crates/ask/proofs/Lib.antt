@@ -1,3 +1,6 @@
--- each outcome of `ask`, and what an outcome says
 pub mod Outcomes
 pub mod Laws
+mod Broken
+mod Sound
+mod AtBoard
+mod RuledOut

@@ -23,11 +23,11 @@ use Rattle.node.specs.declared.Node.{Node}
 use Rattle.node.specs.Node.{noNode, nodeOf}
 use Rattle.node.specs.Tables.{table, nodesOf}
 use Rattle.node.proofs.Tables.{table-at, nodes-length, nodes-at}
-use Rattle.fault_rules.specs.Rules.{earthGone}
-use Rattle.question.specs.declared.Question.{Question}
-use Rattle.question.specs.Question.{refusedQuestion, asking}
-use Rattle.question.specs.Steps.{unreadBy, askedAt}
-use Rattle.question.proofs.Sound.{Sound}
+use Rattle.ask.specs.Rules.{earthGone}
+use Rattle.ask.specs.declared.question.Question.{Question}
+use Rattle.ask.specs.Question.{refusedQuestion, asking}
+use Rattle.ask.specs.Steps.{unreadBy, askedAt}
+use Rattle.ask.proofs.Sound.{Sound}
 use Rattle.ask.specs.Ask.{askOf}
 
 -- ---- 18

@@ -5,8 +5,8 @@ use Rattle.paper.specs.File.{faultOf}
 use Rattle.paper.specs.Chain.{Boards, placeOf}
 use Rattle.paper.specs.Rows.{first}
 use Rattle.paper.specs.Refusal.{faultRows}
-use Rattle.question.specs.declared.Question.{Question}
-use Rattle.question.specs.Question.{asking}
+use Rattle.ask.specs.declared.question.Question.{Question}
+use Rattle.ask.specs.Question.{asking}
 
 -- the first of 12 to 19 that is broken, or the fault with the place of its board
 unfoldable pub askOf : Boards → List ℕ → ℕ → Question

@@ -1,1 +1,4 @@
 pub mod Ask
+pub mod Question
+pub mod Rules
+pub mod Steps

@@ -1,18 +1,21 @@
 // A fault's bytes, read against an accepted network: accepted with its board's place, or refused by the first rule of 12 to 19 that is broken.
+pub mod question;
+mod rules;
+
 ghost use mathlib.Core.Path.{_≡_};
 ghost use Prim.Native.Nat.{_≤_};
 ghost use lib.ListN.{take};
 ghost use Rattle.node.specs.Node.{noNode};
 ghost use Rattle.node.specs.Tables.{table, nodesOf};
 ghost use Rattle.ask.specs.Ask.{askOf};
+use crate::question::Question;
+use crate::question::at_board;
+use crate::question::refused;
+use crate::question::unread;
 use file::bytes::fault_of;
+use label::search::lookup;
 use node::Node;
 use paper::Board;
-use question::Question;
-use question::at_board;
-use question::refused;
-use question::unread;
-use search::lookup;
 
 // Bytes that are not read are shown whole: all that there are for 12, the fault's 20 for 13.
 // Board k's node stands at k - 1, behind its feeder's: it says where the board's zero sequence starts.

@@ -6,7 +6,7 @@
 ghost use mathlib.Core.Path.{_≡_};
 ghost use Prim.Native.Nat.{_+_, _*_, _≤_};
 ghost use lib.ListN.{length};
-ghost use Rattle.case.specs.Case.{marks};
+ghost use Rattle.stream.specs.Case.{marks};
 ghost use Rattle.decimal.specs.Wrote.{Wrote};
 ghost use Rattle.paper.specs.Answer.{verdict, written};
 ghost use Rattle.stream.specs.Layout.{bytesOf};
@@ -65,7 +65,7 @@ fn answer(out: &mut [u8], net: &[u8], flt: &[u8], buffer: &mut [i64]) -> usize
     requires { ⌜ 36 + 8 * length (now buffer) ≤ length (now out) ⌝ }
     ensures { λ r. ⌜ Wrote 0 (bytesOf (verdict (now (net .entry)) (now (flt .entry)) (length (now (buffer .entry)))) (written (now (net .entry)) (now (flt .entry)) (marks (length (now (buffer .entry)))))) (now (out .entry)) (now (out .exit)) r ⌝ }
 {
-    case::mark(buffer);
+    stream::case::mark(buffer);
     let given = solve::solve(net, flt, buffer);
     stream::put_answer(out, 0, given, buffer)
 }
@@ -86,7 +86,7 @@ fn case(head: &[u8], parts: &mut [u8], buffer: &mut [i64], out: &mut [u8]) -> bo
     requires { ⌜ 6400 ≡ length (now buffer) ⌝ }
     requires { ⌜ 51236 ≡ length (now out) ⌝ }
 {
-    let asked = case::case_of(head);
+    let asked = stream::case::case_of(head);
     let room = asked.room;
     let n = asked.net;
     let m = asked.flt;

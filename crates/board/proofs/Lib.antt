@@ -1,3 +1,5 @@
--- Theorems about a board's numbers. None needs believing.
-pub mod Small
+mod Small
 mod Nothing
+mod Sums
+mod Twelve
+mod RuledOut

@@ -11,8 +11,8 @@ use Rattle.turn.proofs.Ring.{Nring}
 use Rattle.paper.specs.Fault.{nilN, seq}
 use Rattle.paper.specs.Phase.{onlyIf, four, shows, phase, phases}
 use Rattle.node.specs.declared.Node.{Node}
-use Rattle.carried.specs.Carried.{carriedOf}
-use Rattle.faulted.specs.declared.Faulted.{Faulted}
+use Rattle.chain.specs.Carried.{carriedOf}
+use Rattle.board.specs.declared.front.Faulted.{Faulted}
 use Rattle.board.specs.Numbers.{passedOf}
 
 -- a sum of nothing, turned

@@ -4,10 +4,10 @@ use Rattle.paper.specs.Bounds.{Plane, EachSeq, mostW}
 use Rattle.fits.proofs.Sizes.{voltageOf-plane}
 use Rattle.fits.proofs.Fits.{only-if, as-wide}
 use Rattle.node.specs.declared.Node.{Node}
-use Rattle.share.specs.declared.Shared.{Shared}
-use Rattle.carried.specs.Carried.{carriedOf}
-use Rattle.faulted.specs.declared.Faulted.{Faulted}
-use Rattle.faulted.specs.Faulted.{FaultSmall}
+use Rattle.chain.specs.declared.share.Shared.{Shared}
+use Rattle.chain.specs.Carried.{carriedOf}
+use Rattle.board.specs.declared.front.Faulted.{Faulted}
+use Rattle.board.specs.Faulted.{FaultSmall}
 use Rattle.board.specs.Numbers.{ShareSmall, leftOf, passedOf}
 
 module _ {f : Faulted} (h : FaultSmall f) where

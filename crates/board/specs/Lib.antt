@@ -1,1 +1,3 @@
+pub mod Faulted
 pub mod Numbers
+pub mod Put

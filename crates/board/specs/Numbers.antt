@@ -1,4 +1,4 @@
--- The 24 numbers of a board, in the terms of the pass over the boards. That they are the paper's is a theorem (`pass`, `Pass`). Assumes nothing.
+-- The 24 numbers of a board, in the terms of the pass over the boards. That they are the paper's is a theorem (`answer`, `Boards`). Assumes nothing.
 use mathlib.Core.Bool.{Bool, not, _&&_}
 use mathlib.Core.List.{List, _++_}
 use lib.Dec.{eqb}
@@ -8,9 +8,9 @@ use Rattle.paper.specs.Bounds.{AtMost}
 use Rattle.paper.specs.Phase.{voltageOf, phases}
 use Rattle.paper.specs.Answer.{flat}
 use Rattle.node.specs.declared.Node.{Node}
-use Rattle.share.specs.declared.Shared.{Shared}
-use Rattle.carried.specs.Carried.{carriedOf}
-use Rattle.faulted.specs.declared.Faulted.{Faulted}
+use Rattle.chain.specs.declared.share.Shared.{Shared}
+use Rattle.chain.specs.Carried.{carriedOf}
+use Rattle.board.specs.declared.front.Faulted.{Faulted}
 
 -- ---- of a record
 -- the referred voltages, of what the board shares

@@ -1,19 +1,23 @@
 // The numbers of one board.
+pub mod front;
+mod phases;
+mod put;
+
 ghost use mathlib.Core.Path.{_≡_};
 ghost use Prim.Native.Nat.{_≤_};
 ghost use lib.ListN.{length};
 ghost use Rattle.paper.specs.Bounds.{Plane, EachSeq, mostW};
 ghost use Rattle.paper.specs.Phase.{phases};
-ghost use Rattle.faulted.specs.Faulted.{FaultSmall};
+ghost use Rattle.board.specs.Faulted.{FaultSmall};
 ghost use Rattle.board.specs.Numbers.{ShareSmall, leftOf, passedOf, numbersOf};
-use carried::carried;
-use faulted::Faulted;
+use crate::front::Faulted;
+use crate::phases::phases;
+use crate::put::both;
+use chain::carried::carried;
+use chain::share::Shared;
+use fault::volts::voltage;
 use node::Node;
 use paper::Seq;
-use phases::phases;
-use put::both;
-use share::Shared;
-use volts::voltage;
 
 // The referred voltages of a board that shares s with the faulted one.
 fn left(f: Faulted, s: Shared) -> Seq

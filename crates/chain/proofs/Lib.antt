@@ -1,2 +1,3 @@
--- Theorems about the chain, climbed. None needs believing.
 pub mod Climb
+pub mod Shares
+mod RuledOut

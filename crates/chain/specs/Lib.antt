@@ -1,2 +1,3 @@
--- What the contract of the chain cites beside the paper's own definitions.
+pub mod Carried
 pub mod Marked
+pub mod Share

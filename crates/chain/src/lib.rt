@@ -1,4 +1,7 @@
 // Which records lie on the faulted board's chain.
+pub mod carried;
+pub mod share;
+
 ghost use mathlib.Core.Path.{_≡_};
 ghost use Prim.Native.Nat.{_≤_};
 ghost use Rattle.chain.specs.Marked.{FromEarlier, marksOf};

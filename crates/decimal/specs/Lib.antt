@@ -1,4 +1,3 @@
--- numbers as text
 pub mod Decimal
--- what a function that writes text leaves in the buffer
+pub mod Little
 pub mod Wrote

@@ -1,11 +1,14 @@
 // Bytes and numbers as text, written into a lent buffer. Each function writes from a place on and returns the place behind.
+pub mod little;
+pub mod row;
+
 ghost use mathlib.Core.List.{_∷_, []};
 ghost use mathlib.Core.Path.{_≡_};
 ghost use lib.IntN.{natAbs};
 ghost use Rattle.decimal.specs.Decimal.{decimal, signed};
 ghost use Rattle.decimal.specs.Wrote.{Room, Wrote};
 
-pub fn put_byte(out: &mut [u8], at: usize, b: u8) -> usize
+pub(crate) fn put_byte(out: &mut [u8], at: usize, b: u8) -> usize
     requires { ⌜ Room at (b ∷ []) (now out) ⌝ }
     ensures { λ r. ⌜ Wrote at (b ∷ []) (now (out .entry)) (now (out .exit)) r ⌝ }
 {
@@ -26,7 +29,7 @@ pub fn put_bytes(out: &mut [u8], at: usize, s: &[u8]) -> usize
 }
 
 // A number without a sign. The last digit goes behind the others.
-pub fn put_decimal(out: &mut [u8], at: usize, n: u64) -> usize
+pub(crate) fn put_decimal(out: &mut [u8], at: usize, n: u64) -> usize
     requires { ⌜ Room at (decimal n) (now out) ⌝ }
     ensures { λ r. ⌜ Wrote at (decimal n) (now (out .entry)) (now (out .exit)) r ⌝ }
 {
@@ -49,7 +52,7 @@ pub fn magnitude(z: i64) -> u64
 }
 
 // A space, and a number with its sign.
-pub fn put_number(out: &mut [u8], at: usize, z: i64) -> usize
+pub(crate) fn put_number(out: &mut [u8], at: usize, z: i64) -> usize
     requires { ⌜ Room at (0x20 ∷ signed z) (now out) ⌝ }
     ensures { λ r. ⌜ Wrote at (0x20 ∷ signed z) (now (out .entry)) (now (out .exit)) r ⌝ }
 {

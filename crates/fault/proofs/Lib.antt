@@ -1,2 +1,2 @@
--- Theorems about the contracts of the four faults. None needs believing.
 pub mod Asked
+mod RuledOut

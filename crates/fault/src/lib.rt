@@ -1,18 +1,21 @@
 // The four faults at a board: D, and the currents over it.
+mod divisor;
+pub mod volts;
+
 ghost use mathlib.Core.Path.{_≡_};
 ghost use Rattle.paper.specs.Bounds.{AtMost};
 ghost use Rattle.paper.specs.Fault.{numOf, seq, shortOf};
 ghost use Rattle.fault.specs.Short.{shortedOf};
-use divisor::divisor;
-use divisor::earthed;
-use divisor::num_of;
+use crate::divisor::divisor;
+use crate::divisor::earthed;
+use crate::divisor::num_of;
+use number::product::mul;
+use number::product::square;
+use number::sum::add;
+use number::sum::conj;
+use number::sum::neg;
 use paper::Ohms;
 use paper::Seq;
-use product::mul;
-use product::square;
-use sum::add;
-use sum::conj;
-use sum::neg;
 use turn::Num;
 
 // D, and I1, I2 and I0 over it.
@@ -22,7 +25,7 @@ pub struct Shorted {
 }
 
 // The three sequences.
-pub fn seq(s1: Num, s2: Num, s0: Num) -> Seq
+pub(crate) fn seq(s1: Num, s2: Num, s0: Num) -> Seq
     ensures { λ r. ⌜ r ≡ seq s1 s2 s0 ⌝ }
 {
     Seq { s1, s2, s0 }

@@ -3,7 +3,7 @@
 // numbers are as they were found; and, where the number is 0, the numbers of the answer: D, then twelve to a line.
 ghost use Prim.Native.Nat.{_≤_};
 use decimal::magnitude;
-use field::u16_at;
+use file::field::u16_at;
 use libc::STDIN_FILENO;
 use libc::STDOUT_FILENO;
 use paper::Answer;

@@ -2,7 +2,7 @@
 ghost use mathlib.Core.Bool.{not};
 ghost use mathlib.Core.Path.{_≡_};
 ghost use Rattle.paper.specs.Refusal.{headRanges};
-use field::in_range;
+use crate::field::in_range;
 use paper::Head;
 
 pub fn head_wrong(h: Head) -> bool

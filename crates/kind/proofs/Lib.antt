@@ -1,3 +1,4 @@
--- What the proofs of the functions cite.
--- the kind table, row by row
-pub mod Rows
+mod ClockRows
+mod HoldRows
+mod ZeroRows
+mod RuledOut

@@ -1,2 +1,9 @@
--- labels compared as two numbers
+pub mod FromTheBack
 mod Same
+pub mod PlacesLaws
+mod Filled
+mod PlacesNumbers
+mod Rest
+mod Front
+mod Calls
+mod RuledOut

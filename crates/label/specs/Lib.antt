@@ -1,2 +1,2 @@
--- What the contracts of this crate cite besides the paper's definitions.
+pub mod Places
 pub mod Words

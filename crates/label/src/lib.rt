@@ -1,11 +1,15 @@
 // Labels compared. Whoever compares two calls `same_label`.
+pub mod formed;
+pub mod places;
+pub mod search;
+
 ghost use mathlib.Core.Path.{_≡_};
 ghost use Rattle.lemmas.proofs.Table.{tab};
 ghost use Rattle.paper.specs.Bytes.{u8At, sameBytes};
 ghost use Rattle.paper.specs.Label.{spaces, sameLabel};
 ghost use Rattle.label.specs.Words.{littleEndian};
-use field::SPACE;
-use field::pair;
+use file::field::SPACE;
+use file::field::pair;
 
 // One load each once compiled, this and the next.
 fn first_eight(l: [u8; 12]) -> u64
@@ -26,7 +30,7 @@ fn last_four(l: [u8; 12]) -> u32
     a + 65536 * b
 }
 
-pub fn same_label(a: [u8; 12], b: [u8; 12]) -> bool
+pub(crate) fn same_label(a: [u8; 12], b: [u8; 12]) -> bool
     ensures { λ r. ⌜ r ≡ sameLabel a b ⌝ }
 {
     (first_eight(a) == first_eight(b)) & (last_four(a) == last_four(b))

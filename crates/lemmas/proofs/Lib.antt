@@ -13,3 +13,5 @@ pub mod Words
 -- tables, and lent parts of a buffer
 pub mod Table
 pub mod Over
+-- wrong answers, ruled out by a contract
+pub mod RuledOut

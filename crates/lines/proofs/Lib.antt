@@ -1,2 +1,4 @@
--- lines, piece by piece
-pub mod Lines
+mod BoardLines
+mod Lines
+pub mod Unspaced
+mod RuledOut

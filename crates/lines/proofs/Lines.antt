@@ -7,7 +7,7 @@ use lib.ListN.{take, drop}
 use lib.Seq.{drop-drop}
 use Rattle.decimal.specs.Decimal.{decimal, signed, row}
 use Rattle.paper.specs.Bytes.{text}
-use Rattle.name.specs.Name.{unspaced}
+use Rattle.lines.specs.Name.{unspaced}
 use Rattle.lines.specs.Lines.{line, faultLine, refusedText, phaseLines, threeLines, fours}
 
 -- ---- words as the code writes them

@@ -1,2 +1,3 @@
--- what each line says
+pub mod Boards
 pub mod Lines
+pub mod Name

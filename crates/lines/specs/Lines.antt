@@ -6,7 +6,7 @@ use lib.ListN.{take, drop}
 use Rattle.decimal.specs.Decimal.{row}
 use Rattle.paper.specs.Bytes.{text}
 use Rattle.paper.specs.Label.{Label}
-use Rattle.name.specs.Name.{unspaced}
+use Rattle.lines.specs.Name.{unspaced}
 
 -- what stands in front, then numbers
 unfoldable pub line : List ℕ → List ℤ → List ℕ

@@ -1,14 +1,17 @@
 // The lines of an answer that need no network, written into a lent buffer: a refusal's, the fault's, those of three phases.
+pub mod boards;
+mod name;
+
 ghost use mathlib.Core.List.{_∷_, [], _++_};
 ghost use Prim.Native.Nat.{_+_, _≤_};
 ghost use lib.ListN.{length, take, drop};
 ghost use Rattle.decimal.specs.Wrote.{Room, Wrote};
 ghost use Rattle.lines.specs.Lines.{line, faultLine, refusedText, threeLines, fours};
+use crate::name::put_label;
 use decimal::put_bytes;
-use name::put_label;
-use row::put_field;
-use row::put_pair;
-use row::put_row;
+use decimal::row::put_field;
+use decimal::row::put_pair;
+use decimal::row::put_row;
 
 pub fn put_refusal(out: &mut [u8], at: usize, number: u8, place: u16) -> usize
     requires { ⌜ Room at (refusedText number place) (now out) ⌝ }

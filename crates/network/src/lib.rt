@@ -3,9 +3,12 @@ ghost use mathlib.Core.Path.{_≡_};
 ghost use Rattle.paper.specs.Bytes.{part};
 ghost use Rattle.paper.specs.declared.Lent.the-variants.{NetworkBytes};
 ghost use Rattle.network.specs.Network.{refusedNetwork, networkOf, headNumber};
-use field::u16_at;
 use file::bytes::head_of;
+use file::field::u16_at;
 use file::head::head_wrong;
+use file::table::decode;
+use file::table::empty_board;
+use label::places::lookup_all;
 use node::Node;
 use paper::Board;
 use paper::Head;
@@ -13,11 +16,8 @@ use paper::Lent;
 use paper::Outcome;
 use paper::Part;
 use paper::Refusal;
-use places::lookup_all;
 use records::judge;
-use sum_rules::no_node;
-use table::decode;
-use table::empty_board;
+use records::sums::no_node;
 
 // The head's mark.
 const HD: u16 = 0x4448;

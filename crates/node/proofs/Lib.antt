@@ -2,3 +2,4 @@
 pub mod Records
 -- tables of 256 places
 pub mod Tables
+mod RuledOut

@@ -1,3 +1,8 @@
-pub mod Reading
-pub mod Turn
+mod Behind
+mod Zero
+mod Record
+mod Outcomes
+mod Reading
+mod Turn
 pub mod One
+mod RuledOut

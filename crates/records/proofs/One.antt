@@ -13,7 +13,7 @@ use Rattle.node.specs.Tables.{table, nodesFrom}
 use Rattle.records.specs.Judgement.{Judgement}
 
 -- what a refusal says, 0 for none
-placeSaid : Option Refusal → ℕ
+unfoldable pub placeSaid : Option Refusal → ℕ
 placeSaid none = 0
 placeSaid (some r) = r .place
 
@@ -31,7 +31,7 @@ module _ (net : List ℕ) where
       go zero e = e ∙ ap numberSaid (sym (j .all-kept e .0))
       go (suc n) e = e ∙ ap numberSaid (sym (j .first-broken n e))
 
-  place-is : (r : Judged) → Judgement net r → r .place ≡ placeSaid (recordsRefusal [] (recordsOf net))
+  pub place-is : (r : Judged) → Judgement net r → r .place ≡ placeSaid (recordsRefusal [] (recordsOf net))
   unfolding placeSaid
   place-is r j = go (r .number) refl
     where

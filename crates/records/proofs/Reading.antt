@@ -26,12 +26,12 @@ use Rattle.follows.proofs.Before.{feeder-before, start-before, turn-before, Z1-
 use Rattle.follows.proofs.Fit.{Fit, fit}
 use Rattle.follows.proofs.Sound.{SoundAt, Sound, sound-none, sound-next, Tested, turn-small}
 use Rattle.node.specs.declared.Node.{Node}
-use Rattle.inspect.specs.declared.Step.{Step}
+use Rattle.records.specs.declared.Step.{Step}
 use Rattle.node.specs.Node.{nodeOf, nodeFrom, nodeOver, noNode, UpSmall}
-use Rattle.inspect.specs.Rules.{broken, earlier, stepOf}
+use Rattle.records.specs.Rules.{broken, earlier, stepOf}
 use Rattle.node.specs.Tables.{table, nodesFrom}
-use Rattle.feed.proofs.Behind.{place-earlier, place-not-earlier, node-next}
-use Rattle.inspect.proofs.Record.{own-test, fed-test, record-broken, record-over, record-passes, Kept, all-kept}
+use Rattle.records.proofs.Behind.{place-earlier, place-not-earlier, node-next}
+use Rattle.records.proofs.Record.{own-test, fed-test, record-broken, record-over, record-passes, Kept, all-kept}
 use Rattle.node.proofs.Tables.{table-at, table-put, nodes-length, nodes-at, nodes-next}
 use Rattle.node.proofs.Records.{count, bytesOf, boards-count, before-next, all-boards, Passed, passed-none, passed-next, passed-refused, passed-all}
 

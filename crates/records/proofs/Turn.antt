@@ -12,13 +12,13 @@ use Rattle.paper.specs.Bytes.{u16At}
 use Rattle.paper.specs.File.{markOf, boardOf, boardsOf}
 use Rattle.paper.specs.Chain.{noBoard, placeOf}
 use Rattle.paper.specs.Refusal.{theRecord}
-use Rattle.places.specs.Places.{placesOf}
-use Rattle.places.proofs.Laws.{own-at, fed-at}
+use Rattle.label.specs.Places.{placesOf}
+use Rattle.label.proofs.PlacesLaws.{own-at, fed-at}
 use Rattle.node.specs.declared.Node.{Node}
-use Rattle.inspect.specs.declared.Step.{Step}
+use Rattle.records.specs.declared.Step.{Step}
 use Rattle.records.specs.declared.Judged.{Judged}
 use Rattle.node.specs.Node.{nodeOf, noNode, UpSmall}
-use Rattle.inspect.specs.Rules.{earlier, stepOf}
+use Rattle.records.specs.Rules.{earlier, stepOf}
 use Rattle.node.specs.Tables.{table, emptyBoard, nodesFrom}
 use Rattle.records.specs.Judgement.{Judgement}
 use Rattle.node.proofs.Records.{count, bytesOf, boards-count, board-at, mark-at}

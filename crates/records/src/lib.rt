@@ -1,19 +1,28 @@
 // The records, judged in file order: "5 to 11 are all tried on one record before the next."
+mod rules;
+pub mod sums;
+
 ghost use mathlib.Core.Path.{_≡_};
 ghost use Prim.Native.Nat.{_+_, _*_, _≤_};
 ghost use lib.ListN.{length};
 ghost use Rattle.paper.specs.File.{headOf, boardsOf};
-ghost use Rattle.places.specs.Places.{placesOf};
+ghost use Rattle.label.specs.Places.{placesOf};
 ghost use Rattle.node.specs.Tables.{table, emptyBoard};
 ghost use Rattle.records.specs.Judgement.{Judgement};
-use field::u16_at;
-use inspect::rules::earlier;
-use inspect::rules::step;
+use crate::rules::earlier;
+use crate::rules::step;
+use crate::sums::no_node;
+use file::field::u16_at;
+use label::places::Places;
 use node::Node;
 use node::index;
 use paper::Board;
-use places::Places;
-use sum_rules::no_node;
+
+// A record judged: the number of the first broken rule of 5 to 11, or 0 and its node.
+pub(crate) struct Step {
+    pub node: Node,
+    pub number: u8,
+}
 
 // The records judged: the number and the place of the first that is refused, or 0, 0 and all nodes.
 pub struct Judged {

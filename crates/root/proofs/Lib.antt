@@ -1,2 +1,5 @@
--- The theorems of the crate, for its own proofs and for the crates above.
+mod Compared
 pub mod Laws
+pub mod WideLaws
+pub mod Tested
+mod RuledOut

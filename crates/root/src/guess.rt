@@ -1,6 +1,6 @@
 // Where the search for a root begins. Nothing rests on how near that is, so no contract speaks of it: below 2^31
 // the root is nearly always the guess or one less.
-use wide::Wide;
+use crate::wide::Wide;
 
 // A number by its 64 leading bits and the zeros before them, in 128: about head * 2^(64 - zeros). Of 0 the zeros are 128.
 struct Lead {

@@ -1,11 +1,13 @@
 // The greatest n with n * n * den <= num, for whole numbers of 128 bits.
 mod guess;
+mod reaches;
+pub mod wide;
 
 ghost use Prim.Native.Nat.{_≤_, _<_};
-ghost use Rattle.wide.specs.Value.{valueOf};
+ghost use Rattle.root.specs.Value.{valueOf};
 ghost use Rattle.root.specs.Root.{Root};
-use reaches::reaches;
-use wide::Wide;
+use crate::reaches::reaches;
+use crate::wide::Wide;
 
 // m where it lies above lo and no higher than top, and else the middle of them.
 fn between(m: u64, lo: u64, top: u64) -> u64

@@ -22,8 +22,8 @@ use Rattle.network.specs.declared.Network.{Network}
 use Rattle.paper.specs.declared.Outcome.the-variants.{Accepted, Refused}
 use Rattle.network.specs.Network.{acceptedNetwork, judged, networkOf}
 use Rattle.network.proofs.Whole.{first-boards}
-use Rattle.question.specs.declared.Question.{Question}
-use Rattle.question.specs.Question.{acceptedQuestion}
+use Rattle.ask.specs.declared.question.Question.{Question}
+use Rattle.ask.specs.Question.{acceptedQuestion}
 use Rattle.ask.specs.Ask.{askOf}
 use Rattle.ask.proofs.Laws.{never, kept, broken}
 use Rattle.answer.specs.Posed.{Posed}

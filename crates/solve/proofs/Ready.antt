@@ -10,7 +10,7 @@ use Rattle.paper.specs.Refusal.{refusal}
 use Rattle.paper.specs.Phase.{asked}
 use Rattle.follows.proofs.Sound.{turn-small}
 use Rattle.follows.proofs.Given.{question, network, z1-not-zero, z2-not-zero}
-use Rattle.pass.specs.Ready.{SumsIn, Ready}
+use Rattle.answer.specs.Ready.{SumsIn, Ready}
 
 module _ (net flt : List ℕ) (room : ℕ) (accepted : refusal net flt room ≡ none) where
   -- 256 records turn at most 11 · 256

@@ -8,9 +8,9 @@ use lib.ListN.{length, take, drop}
 use lib.Seq.{take-append-seam, drop-append-seam}
 use mir.Syntax.{w64}
 use mir.Val.{SFits}
-use Rattle.little.specs.Little.{little, wordOf}
-use Rattle.little.proofs.Stored.{little-length}
-use Rattle.little.proofs.Back.{same-number, word-fits, same-word}
+use Rattle.decimal.specs.Little.{little, wordOf}
+use Rattle.decimal.proofs.Stored.{little-length}
+use Rattle.decimal.proofs.Back.{same-number, word-fits, same-word}
 use Rattle.stream.specs.Layout.{elementsOf}
 use Rattle.stream.proofs.Pieces.{elements-length}
 

@@ -1,4 +1,4 @@
--- how many bytes an answer has, and its pieces
+pub mod Marks
 pub mod Pieces
--- what they tell
 pub mod Back
+mod RuledOut

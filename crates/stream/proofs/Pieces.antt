@@ -13,8 +13,8 @@ use mir.Facts.{toZ-ofZ}
 use Rattle.lemmas.proofs.Words.{kept}
 use Rattle.paper.specs.declared.Part.{Part}
 use Rattle.paper.specs.declared.Answer.{Answer}
-use Rattle.little.specs.Little.{little, wordOf}
-use Rattle.little.proofs.Stored.{little-length}
+use Rattle.decimal.specs.Little.{little, wordOf}
+use Rattle.decimal.proofs.Stored.{little-length}
 use Rattle.stream.specs.Layout.{whoseOf, partOf, foundOf, headOf, elementsOf, bytesOf}
 
 -- ---- an answer's

@@ -7,7 +7,7 @@ use Rattle.paper.specs.declared.Lent.{Lent}
 use Rattle.paper.specs.declared.Lent.the-variants.{NetworkBytes, FaultBytes}
 use Rattle.paper.specs.declared.Part.{Part}
 use Rattle.paper.specs.declared.Answer.{Answer}
-use Rattle.little.specs.Little.{little, wordOf}
+use Rattle.decimal.specs.Little.{little, wordOf}
 
 unfoldable pub whoseOf : Lent → ℕ
 whoseOf NetworkBytes = 1

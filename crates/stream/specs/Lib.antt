@@ -1,2 +1,2 @@
--- the bytes of an answer in a stream
+pub mod Case
 pub mod Layout

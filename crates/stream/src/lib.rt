@@ -1,11 +1,13 @@
 // The bytes of an answer in a stream of answers, laid down in a lent buffer.
 // Each `put_..` writes from a place on and returns the place behind.
+pub mod case;
+
 ghost use mathlib.Core.Path.{_≡_};
 ghost use Rattle.decimal.specs.Wrote.{Room, Wrote};
 ghost use Rattle.stream.specs.Layout.{whoseOf, partOf, foundOf, headOf, elementsOf, bytesOf};
-use little::put_eight;
-use little::put_four;
-use little::word;
+use decimal::little::put_eight;
+use decimal::little::put_four;
+use decimal::little::word;
 use paper::Answer;
 use paper::Lent;
 use paper::Part;

@@ -11,7 +11,7 @@ use Rattle.paper.specs.Phase.{Asked, theD, phases, faultCurrents, boardVoltages
 use Rattle.paper.specs.Answer.{flat, ofBoard, ofBoards, numbers}
 use Rattle.follows.proofs.Laid.{boards-size}
 use Rattle.lines.specs.Lines.{fours}
-use Rattle.board_lines.specs.Boards.{boardLines, boardLying, boardsLying}
+use Rattle.lines.specs.Boards.{boardLines, boardLying, boardsLying}
 use Rattle.text.specs.Text.{topLines, boardsLines}
 use Rattle.text.specs.Lying.{topLying}
 

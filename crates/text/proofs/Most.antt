@@ -17,10 +17,10 @@ use Rattle.paper.specs.Amps.{amps}
 use Rattle.follows.proofs.Accepted.{accepted-network, accepted-fault}
 use Rattle.decimal.specs.Decimal.{signed, row}
 use Rattle.decimal.proofs.Decimal.{decimal-most}
-use Rattle.name.specs.Name.{unspaced}
+use Rattle.lines.specs.Name.{unspaced}
 use Rattle.lines.specs.Lines.{line, phaseLines, threeLines, faultLine, refusedText}
-use Rattle.name.proofs.Unspaced.{unspaced-most}
-use Rattle.board_lines.specs.Boards.{boardLines}
+use Rattle.lines.proofs.Unspaced.{unspaced-most}
+use Rattle.lines.specs.Boards.{boardLines}
 use Rattle.text.specs.Text.{currentLines, topLines, boardsLines, acceptedText, textOf, room, printed, textMost}
 
 signed-most : (z : ℤ) → length (signed z) ≤ 21

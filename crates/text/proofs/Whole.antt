@@ -15,7 +15,7 @@ use Rattle.paper.specs.Amps.{amps}
 use Rattle.paper.specs.Answer.{numbers, after, written, accepted, refused, answer, verdict}
 use Rattle.follows.proofs.Accepted.{Network, Question, accepted-network, accepted-fault, boards-length}
 use Rattle.lines.specs.Lines.{refusedText}
-use Rattle.board_lines.specs.Boards.{boardsLying}
+use Rattle.lines.specs.Boards.{boardsLying}
 use Rattle.follows.proofs.Laid.{behind-top}
 use Rattle.text.specs.Text.{topLines, boardsLines, acceptedText, textOf, room, printed}
 use Rattle.text.specs.Lying.{topLying, Answered}

@@ -5,7 +5,7 @@ use Prim.Native.Nat.{ℕ, suc, _+_, _*_}
 use lib.IntN.{ℤ}
 use Rattle.decimal.specs.Decimal.{Decimal·open}
 use Rattle.lines.specs.Lines.{line, faultLine, refusedText, threeLines, Lines·open}
-use Rattle.board_lines.specs.Boards.{boardLines, Boards·open}
+use Rattle.lines.specs.Boards.{boardLines, Boards·open}
 use Rattle.paper.specs.declared.Fault.{Fault}
 use Rattle.paper.specs.declared.Refusal.{Refusal}
 use Rattle.paper.specs.Bytes.{text}

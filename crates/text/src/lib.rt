@@ -7,13 +7,13 @@ ghost use Rattle.paper.specs.File.{faultOf};
 ghost use Rattle.paper.specs.Answer.{verdict};
 ghost use Rattle.text.specs.Text.{room, printed, textMost};
 ghost use Rattle.text.specs.Lying.{currentsLying, topLying, Answered};
-use board_lines::put_boards;
+use decimal::row::put_row;
 use file::bytes::fault_of;
+use lines::boards::put_boards;
 use lines::put_fault;
 use lines::put_phases;
 use lines::put_refusal;
 use paper::Answer;
-use row::put_row;
 
 // D and the fault currents.
 fn put_currents(out: &mut [u8], at: usize, zs: &[i64]) -> usize

@@ -10,3 +10,6 @@ pub mod Cancel
 -- bounds
 pub mod Within
 pub mod Operands
+-- wrong answers, ruled out by a contract
+pub mod Told
+mod RuledOut

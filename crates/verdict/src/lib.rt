@@ -1,4 +1,6 @@
 // What a call returns, made of a refusal or of what was answered.
+pub mod shown;
+
 ghost use mathlib.Core.Path.{_≡_};
 ghost use Prim.Native.Nat.{_≤_};
 ghost use Rattle.paper.specs.Refusal.{theRecord};

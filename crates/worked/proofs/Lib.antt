@@ -1,2 +1,3 @@
 pub mod Equation
 mod Four
+mod RuledOut

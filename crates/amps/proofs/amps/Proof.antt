@@ -11,7 +11,7 @@ use mir.Val.{Fits, SFits}
 use mir.Facts.{toZ-ofZ}
 use borrow.Author.Needs.{needs}
 use Rattle.lemmas.proofs.Words.{kept}
-use Rattle.wide.proofs.Laws.{value-of}
+use Rattle.root.proofs.WideLaws.{value-of}
 use Rattle.amps.specs.Positive.{Positive}
 use Rattle.amps.proofs.Squares.{square-most}
 use Rattle.amps.proofs.amps.Statement.{statement}

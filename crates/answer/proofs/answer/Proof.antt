@@ -5,7 +5,7 @@ use borrow.Author.Needs.{needs}
 use lib.Seq.{length-take-le}
 use mir.Syntax.{w64}
 use mir.Facts.{toZ-ofZ}
-use Rattle.pass.proofs.Pass.{fault-small}
+use Rattle.answer.proofs.Boards.{fault-small}
 use Rattle.answer.proofs.Whole.{room-stays, earlier-all, passing, whole, in-range, k-in, faulted-good, d-positive, volts-in, amps-good}
 use Rattle.answer.proofs.answer.Statement.{statement}
 use Rattle.answer.proofs.answer.Tie as tie

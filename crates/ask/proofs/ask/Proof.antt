@@ -9,7 +9,7 @@ use Rattle.paper.specs.declared.Fault.{Fault}
 use Rattle.paper.specs.Chain.{Boards, startsAt}
 use Rattle.follows.proofs.Places.{place-most}
 use Rattle.node.specs.Node.{noNode}
-use Rattle.question.proofs.Sound.{Sound, sound}
+use Rattle.ask.proofs.Sound.{Sound, sound}
 use Rattle.ask.proofs.Outcomes.{start-read, ask-unread, ask-14, ask-at}
 use Rattle.ask.proofs.ask.Statement.{statement}
 use Rattle.ask.proofs.ask.Tie as tie

@@ -5,8 +5,8 @@ use lib.ListN.{length}
 use lib.Seq.{length-take-le}
 use Rattle.paper.specs.Answer.{verdict, written}
 use Rattle.solve.proofs.Promised.{written-length}
-use Rattle.case.specs.Case.{marks}
-use Rattle.case.proofs.Marks.{marks-length}
+use Rattle.stream.specs.Case.{marks}
+use Rattle.stream.proofs.Marks.{marks-length}
 use Rattle.stream.proofs.Pieces.{bytes-length}
 use borrow.Author.Needs.{needs}
 use Rattle.batch.proofs.reply.Statement.{statement}

@@ -6,9 +6,9 @@ use borrow.Author.Needs.{needs}
 use Rattle.paper.specs.declared.Seq.{Seq}
 use Rattle.paper.specs.Phase.{phases}
 use Rattle.paper.specs.Bounds.{Plane, EachSeq, mostW}
-use Rattle.put.specs.Put.{twelveOf}
+use Rattle.board.specs.Put.{twelveOf}
 use Rattle.board.specs.Numbers.{numbersOf}
-use Rattle.faulted.proofs.Twelve.{twelve-phases}
+use Rattle.board.proofs.Twelve.{twelve-phases}
 use Rattle.board.proofs.Small.{left-small}
 use Rattle.board.proofs.board.Statement.{statement}
 use Rattle.board.proofs.board.Tie as tie

@@ -3,7 +3,7 @@ use mathlib.Core.Path.{_≡_, sym, _∙_, ap}
 use Prim.Native.Nat.{ℕ, _+_, _*_, _≤_}
 use native.Mathlib.Omega.{arith}
 use Rattle.paper.specs.declared.Head.{Head}
-use Rattle.places.specs.Places.{placesOf}
+use Rattle.label.specs.Places.{placesOf}
 use Rattle.network.proofs.Head.{HeadKept, kept-head}
 use Rattle.network.proofs.Whole.{read-short, read-head, read-refused, read-accepted, first-boards}
 use borrow.Author.Needs.{needs}
@@ -15,8 +15,8 @@ use Rattle.file.proofs.bytes.head_of.Reads as head-of-reads
 use Rattle.network.proofs.head_number.Reads as head-number-reads
 use Rattle.records.proofs.judge.Reads as judge-reads
 use Rattle.network.proofs.refused.Reads as refused-reads
-use Rattle.table.proofs.decode.Reads as decode-reads
-use Rattle.places.proofs.lookup_all.Reads as lookup-all-reads
+use Rattle.file.proofs.table.decode.Reads as decode-reads
+use Rattle.label.proofs.places.lookup_all.Reads as lookup-all-reads
 
 head-number-requires : tie.Need-head-number-requires
 head-number-requires c κs = search needs

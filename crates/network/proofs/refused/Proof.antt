@@ -8,8 +8,8 @@ use Rattle.network.proofs.refused.Statement.{statement}
 use Rattle.network.proofs.refused.Tie as tie
 use Rattle.network.proofs.refused.Reads as reads
 use Rattle.network.proofs.refused.Lts as lts
-use Rattle.sum_rules.proofs.no_node.Reads as no-node-reads
-use Rattle.table.proofs.empty_board.Reads as empty-board-reads
+use Rattle.records.proofs.sums.no_node.Reads as no-node-reads
+use Rattle.file.proofs.table.empty_board.Reads as empty-board-reads
 
 empty-board-requires : tie.Need-empty-board-requires
 empty-board-requires c κs = search needs

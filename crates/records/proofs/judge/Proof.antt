@@ -9,9 +9,9 @@ use lib.ListN.{length}
 use Rattle.node.specs.declared.Node.{Node}
 use Rattle.paper.specs.Bytes.{u16At}
 use Rattle.paper.specs.Chain.{noBoard}
-use Rattle.places.specs.declared.Places.{Places}
+use Rattle.label.specs.declared.places.Places.{Places}
 use Rattle.node.specs.Node.{nodeOf, noNode}
-use Rattle.inspect.specs.Rules.{earlier, stepOf}
+use Rattle.records.specs.Rules.{earlier, stepOf}
 use Rattle.node.specs.Tables.{table, emptyBoard}
 use Rattle.node.proofs.Tables.{empty-table}
 use Rattle.records.proofs.Reading.{Read, read-none, before, feeder}
@@ -21,11 +21,11 @@ use Rattle.records.proofs.judge.Statement.{statement}
 use Rattle.records.proofs.judge.Tie as tie
 use Rattle.records.proofs.judge.Reads as reads
 use Rattle.records.proofs.judge.Lts as lts
-use Rattle.field.proofs.u16_at.Reads as u16-at-reads
+use Rattle.file.proofs.field.u16_at.Reads as u16-at-reads
 use Rattle.node.proofs.index.Reads as index-reads
-use Rattle.inspect.proofs.rules.earlier.Reads as earlier-reads
-use Rattle.inspect.proofs.rules.step.Reads as step-reads
-use Rattle.sum_rules.proofs.no_node.Reads as no-node-reads
+use Rattle.records.proofs.rules.earlier.Reads as earlier-reads
+use Rattle.records.proofs.rules.step.Reads as step-reads
+use Rattle.records.proofs.sums.no_node.Reads as no-node-reads
 
 abbrev Inv-loop : tie.InvT-loop
 Inv-loop net n boards none own fed nodes₀ i₀ nodes i = (i ≤ n) × Read net i nodes

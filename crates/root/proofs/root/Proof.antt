@@ -8,9 +8,9 @@ use native.Mathlib.Omega.{arith}
 use lib.Dec.{leb}
 use borrow.Author.Tests.{leb-true, leb-false}
 use borrow.Author.Needs.{needs}
-use Rattle.wide.specs.Value.{valueOf}
+use Rattle.root.specs.Value.{valueOf}
 use Rattle.root.specs.Root.{Root}
-use Rattle.wide.proofs.Laws.{value-lt}
+use Rattle.root.proofs.WideLaws.{value-lt}
 use Rattle.root.proofs.root.Statement.{statement}
 use Rattle.root.proofs.root.Tie as tie
 

@@ -1,0 +1,203 @@
+-- The pass over the boards, turn by turn: what it knows of a board is the paper's. Assumes nothing.
+use mathlib.Core.Bool.{Bool, true, false, not, _&&_}
+use mathlib.Core.List.{List, [], _∷_, _++_, append-nil, append-assoc}
+use mathlib.Core.Logic.{_⊎_, inl, inr}
+use mathlib.Core.Path.{_≡_, refl, sym, _∙_, ap, subst}
+use Prim.Native.Nat.{ℕ, zero, suc, _+_, _*_, _-_, _≤_, _<_}
+use native.Mathlib.Omega.{arith}
+use native.Mathlib.Numerals.{add-one}
+use lib.Dec.{eqb}
+use lib.IntN.{ℤ, pos}
+use lib.ListN.{length, length-append, length-take, length-drop, getD, set, take, drop, take-append-drop}
+use lib.Seq.{getD-set-same, getD-set-other}
+use Rattle.lemmas.specs.Over.{over}
+use borrow.Rule.Slice.PartMut.{putMid}
+use borrow.Author.Tests.{eqb-true, eqb-false}
+use Rattle.lemmas.proofs.Over.{put-over, over-then, over-length}
+use Rattle.paper.specs.declared.Fault.{Fault}
+use Rattle.paper.specs.declared.Seq.{Seq}
+use Rattle.paper.specs.Bytes.{oneOf}
+use Rattle.paper.specs.Chain.{Boards, feederOf, chain, zeroChain, startsAt, Z1, Z2, Z0, turnOf}
+use Rattle.paper.specs.Phase.{Asked, theD, theI, voltage, current, phases, boardVoltages, recordCurrents}
+use Rattle.paper.specs.Answer.{flat, ofBoard, ofBoards}
+use Rattle.follows.proofs.Chain.{feeder-earlier}
+use Rattle.follows.proofs.Earth.{earthed-is}
+use Rattle.follows.proofs.Laid.{board-size, boards-size}
+use Rattle.fits.proofs.Sizes.{Ranged}
+use Rattle.fits.proofs.Fits.{SumsSmall, SharesSmall, shares-small, theD-small, theI-plane}
+use Rattle.node.specs.declared.Node.{Node}
+use Rattle.node.specs.Node.{nodeOf, noNode}
+use Rattle.node.specs.Tables.{table, nodesOf}
+use Rattle.node.proofs.Tables.{table-at, nodes-length, nodes-at}
+use Rattle.fault.specs.declared.Shorted.{Shorted}
+use Rattle.fault.specs.Short.{shortedOf}
+use Rattle.fault.proofs.Asked.{shorted-is, voltage-is}
+use Rattle.chain.specs.Marked.{marksOf}
+use Rattle.chain.proofs.Climb.{mark-is}
+use Rattle.chain.specs.declared.share.Shared.{Shared}
+use Rattle.chain.specs.Share.{noShare, sharedOf, shareFrom}
+use Rattle.chain.proofs.Shares.{share-none, share-next}
+use Rattle.chain.specs.Carried.{carriedOf}
+use Rattle.board.specs.declared.front.Faulted.{Faulted}
+use Rattle.board.specs.Faulted.{faultedFrom, FaultSmall}
+use Rattle.board.specs.Numbers.{leftOf, passedOf, numbersOf, ShareSmall}
+use Rattle.answer.specs.Ready.{Ready}
+use Rattle.answer.specs.Passing.{Passing}
+
+-- ---- a board's node, off the table
+pub in-table : (boards : Boards) (i : ℕ) → i < length boards → getD (table noNode (nodesOf boards)) i noNode ≡ nodeOf boards (suc i)
+in-table boards i h =
+    let m = nodes-length boards 1 (length boards) in
+    let e : 1 + i ≡ suc i = omega arith in
+    table-at noNode (nodesOf boards) i noNode (omega arith) ∙ nodes-at noNode boards 1 (length boards) i h ∙ ap (nodeOf boards) e
+
+-- ---- a question that is ready
+module _ (q : Asked) (ready : Ready q) where
+  open Asked q using (head, boards, fault, k)
+
+  pub ranged : Ranged (Z1 boards k) (Z2 boards k) (Z0 boards k) (fault .zf)
+  ranged = let s = ready .sums-in k (ready .k-from) (ready .k-to) in record { upto1 = s .sum1; upto2 = s .sum2; upto0 = s .sum0; uptof = ready .zf-in }
+
+  -- the fault at its board
+  abbrev pub here : Faulted
+  here = record { i = theI q; d = theD q; start = startsAt boards k; turn = turnOf boards k; phase = fault .phase }
+
+  pub faulted-is : faultedFrom (nodeOf boards k) fault ≡ here
+  unfolding faultedFrom nodeOf
+  faulted-is = λ i. record { i = shorted-is q i .i; d = shorted-is q i .d; start = startsAt boards k; turn = turnOf boards k; phase = fault .phase }
+
+  here-small : FaultSmall here
+  here-small =
+      record { d-small = theD-small q ranged; i-small = theI-plane q ranged; turn-small = ready .sums-in k (ready .k-from) (ready .k-to) .turns; phase-to = ready .phase-to }
+
+  pub fault-small : {f : Faulted} → f ≡ faultedFrom (nodeOf boards k) fault → FaultSmall f
+  fault-small e = subst FaultSmall (sym (e ∙ faulted-is)) here-small
+
+  -- what a board shares fits
+  pub share-small : (j : ℕ) → 1 ≤ j → j ≤ length boards → ShareSmall (sharedOf boards k j)
+  unfolding sharedOf
+  share-small j h l =
+      let s = ready .sums-in j h l in
+      let u = shares-small q {j = j} (record { sum1 = s .sum1; sum2 = s .sum2; sum0 = s .sum0 }) in
+      record { share1 = u .share1; share2 = u .share2; share0 = u .share0 }
+
+  -- ---- a board's numbers are the paper's
+  pub numbers-are : (j : ℕ) → numbersOf here (oneOf j (chain boards k)) (nodeOf boards j) (sharedOf boards k j) ≡ ofBoard q j
+  unfolding numbersOf leftOf passedOf carriedOf nodeOf sharedOf ofBoard boardVoltages recordCurrents current
+  numbers-are j =
+      λ i. flat (phases (fault .phase) (turnOf boards j) (turnOf boards k) (voltage-is q j i))
+      ++ flat (phases (fault .phase) (turnOf boards j) (turnOf boards k) (carriedOf (oneOf j (chain boards k)) (earthed-is boards j k i) (theI q)))
+
+-- ---- the numbers of the boards, one behind the other
+module _ (q : Asked) where
+  boards-next : (r n : ℕ) → ofBoards q r (suc n) ≡ ofBoards q r n ++ ofBoard q (r + n)
+  unfolding ofBoards
+  boards-next r zero = let e : r ≡ r + 0 = omega arith in append-nil (ofBoard q r) ∙ ap (ofBoard q) e
+  boards-next r (suc n) =
+      let e : suc r + n ≡ r + suc n = omega arith in
+      ap (λ l. ofBoard q r ++ l) (boards-next (suc r) n ∙ ap (λ m. ofBoards q (suc r) n ++ ofBoard q m) e) ∙ sym (append-assoc (ofBoard q r) (ofBoards q (suc r) n) (ofBoard q (r + suc n)))
+
+-- ---- a turn
+module _ (q : Asked) (nodes : List Node) (n : ℕ) (on : List Bool) (f : Faulted) (p : Passing q nodes n on f) where
+  open Asked q using (boards, fault, k)
+
+  -- after j turns
+  pub record Turned (out₀ out : List ℤ) (shares : List Shared) (j : ℕ) : Type 0 where
+    pub shares-are : (i : ℕ) → i < j → getD shares i noShare ≡ sharedOf boards k (suc i)
+    pub written : out ≡ over 13 (ofBoards q 1 j) out₀
+
+  pub no-turn : (out : List ℤ) (shares : List Shared) → Turned out out shares 0
+  unfolding ofBoards over
+  no-turn out shares = record { shares-are = λ i h. absurd (omega arith); written = sym (take-append-drop 13 out) }
+
+  -- what the tables say of board j + 1
+  pub node-at : (j : ℕ) → j < n → getD nodes j noNode ≡ nodeOf boards (suc j)
+  node-at j h = ap (λ l. getD l j noNode) (p .nodes-are) ∙ in-table boards j (omega (arith, p .all))
+
+  pub mark-at : (j : ℕ) → j < n → getD on j false ≡ oneOf (suc j) (chain boards k)
+  mark-at j h =
+      let a = p .all in
+      let l = p .ready .few in
+      ap (λ l. getD l j false) (p .marks-are) ∙ mark-is boards nodes (λ i b. node-at i (omega arith)) k j (p .ready .k-to) (omega arith)
+
+  -- its feeder stands before it
+  pub feeder-before : (j : ℕ) → j < n → getD nodes j noNode .feeder ≤ j
+  unfolding nodeOf
+  feeder-before j h = let e = ap (λ (m : Node). m .feeder) (node-at j h) in omega (arith, feeder-earlier boards j)
+
+  module _ (j : ℕ) (h : j < n) {out₀ out : List ℤ} {shares : List Shared} (t : Turned out₀ out shares j) where
+    pub feeder-is : getD nodes j noNode .feeder ≡ feederOf boards (suc j)
+    unfolding nodeOf
+    feeder-is = ap (λ (m : Node). m .feeder) (node-at j h)
+
+    pub up-is : {feeder : ℕ} {up : Shared} → feeder ≡ getD nodes j noNode .feeder → ((feeder ≡ 0 → ⊥) × (up ≡ getD shares (feeder - 1) noShare)) ⊎ ((feeder ≡ 0) × (up ≡ noShare))
+        → up ≡ sharedOf boards k (feederOf boards (suc j))
+    up-is {feeder} e (inl (z, u)) =
+        let b = feeder-earlier boards j in
+        let g = feeder-is in
+        let d : suc (feeder - 1) ≡ feederOf boards (suc j) = omega arith in
+        u ∙ t .shares-are (feeder - 1) (omega arith) ∙ ap (sharedOf boards k) d
+    up-is {feeder} e (inr (z, u)) =
+        let g = feeder-is in
+        let d : 0 ≡ feederOf boards (suc j) = omega arith in
+        u ∙ sym (share-none boards k) ∙ ap (sharedOf boards k) d
+
+    -- the record is what it is
+    pub share-is : {here : Bool} {node : Node} {start : ℕ} {up s : Shared} → here ≡ getD on j false → node ≡ getD nodes j noNode → start ≡ f .start → up ≡ sharedOf boards k (feederOf boards (suc j))
+        → s ≡ shareFrom here node start up → s ≡ sharedOf boards k (suc j)
+    share-is e d b u c =
+        c ∙ (λ i. shareFrom (e i) (d i) (b i) (u i)) ∙ (λ i. shareFrom (mark-at j h i) (node-at j h i) (starting i) (sharedOf boards k (feederOf boards (suc j)))) ∙ share-next boards k j
+      where
+        starting : f .start ≡ startsAt boards k
+        starting = ap (λ (g : Faulted). g .start) (p .faulted-is ∙ faulted-is q (p .ready))
+
+    pub turn-fits : getD nodes j noNode .turn ≤ 2816
+    unfolding nodeOf
+    turn-fits = let a = p .all in let e = ap (λ (m : Node). m .turn) (node-at j h) in omega (arith, p .ready .sums-in (suc j) (omega arith) (omega arith) .turns)
+
+    pub shares-fit : {s : Shared} → s ≡ sharedOf boards k (suc j) → ShareSmall s
+    shares-fit e = let a = p .all in subst ShareSmall (sym e) (share-small q (p .ready) (suc j) (omega arith) (omega arith))
+
+    -- its numbers behind those before
+    pub goes-on : {s : Shared} {here : Bool} {node : Node} {part : List ℤ} (m : ℕ) → m ≡ 24 → length shares ≡ 256 → 13 + 24 * n ≤ length out₀ → s ≡ sharedOf boards k (suc j) → here ≡ getD on j false → node ≡ getD nodes j noNode
+        → part ≡ numbersOf f here node s → Turned out₀ (putMid (13 + 24 * j) m out part) (set shares j s) (j + 1)
+    goes-on {s} {here} {node} {part} m size many room e d b c = record { shares-are = are; written = behind }
+      where
+        are : (i : ℕ) → i < j + 1 → getD (set shares j s) i noShare ≡ sharedOf boards k (suc i)
+        are i l = go (eqb i j) refl
+          where
+            go : (c : Bool) → eqb i j ≡ c → getD (set shares j s) i noShare ≡ sharedOf boards k (suc i)
+            go true g =
+                let m = eqb-true i j g in
+                let a = p .all in
+                let x = p .ready .few in
+                ap (λ (r : ℕ). getD (set shares j s) r noShare) m ∙ getD-set-same shares j s noShare (omega arith) ∙ e ∙ ap (λ (r : ℕ). sharedOf boards k (suc r)) (sym m)
+            go false g = let m = eqb-false i j g in getD-set-other shares j i s noShare m ∙ t .shares-are i (omega arith)
+
+        numbers : part ≡ ofBoard q (suc j)
+        numbers = c ∙ (λ i. numbersOf ((p .faulted-is ∙ faulted-is q (p .ready)) i) ((d ∙ mark-at j h) i) ((b ∙ node-at j h) i) (e i)) ∙ numbers-are q (p .ready) (suc j)
+
+        before : List ℤ
+        before = ofBoards q 1 j
+
+        place : 13 + 24 * j ≡ 13 + length before
+        place = omega (arith, boards-size q 1 j)
+
+        next : suc j ≡ 1 + j
+        next = omega arith
+
+        behind : putMid (13 + 24 * j) m out part ≡ over 13 (ofBoards q 1 (j + 1)) out₀
+        behind =
+            put-over (13 + 24 * j) m out part (ofBoard q (suc j)) numbers (size ∙ sym (board-size q (suc j)))
+            ∙ (λ i. over (place i) (ofBoard q (suc j)) (t .written i))
+            ∙ over-then 13 before (ofBoard q (suc j)) out₀ (omega arith)
+            ∙ ap (λ m. over 13 (before ++ ofBoard q m) out₀) next
+            ∙ ap (λ l. over 13 l out₀) (sym (boards-next q 1 j))
+            ∙ ap (λ m. over 13 (ofBoards q 1 m) out₀) (sym (add-one j))
+
+    pub keeps-length : {out′ : List ℤ} {shares′ : List Shared} → 13 + 24 * n ≤ length out₀ → Turned out₀ out′ shares′ (j + 1) → length out′ ≡ length out₀
+    keeps-length room u = ap length (u .written) ∙ over-length (pos 0) 13 (ofBoards q 1 (j + 1)) out₀ (omega (arith, boards-size q 1 (j + 1)))
+
+-- a board's part of the buffer
+pub part-length : (a : ℕ) (xs : List ℤ) → a + 24 ≤ length xs → length (take (a + 24 - a) (drop a xs)) ≡ 24
+part-length a xs h = simp (length-take, length-drop) (omega arith)

@@ -1,0 +1,10 @@
+-- `ask::question::refused` meets its contract. Assumes nothing.
+use mathlib.Core.Path.{refl}
+use Rattle.ask.proofs.question.refused.Statement.{statement}
+use Rattle.ask.proofs.question.refused.Tie as tie
+
+returns : tie.Need-returns
+returns c = refl
+
+pub refused-spec : {M : Type 1} → statement M
+refused-spec = tie.close (tie.spec returns)

@@ -1,0 +1,227 @@
+-- What contracts of this crate rule out: a call that it allows, and an answer, or what the buffer holds afterwards, that it does not. Assumes nothing.
+use mathlib.Core.Bool.{Bool, true, false}
+use mathlib.Core.List.{List, [], _∷_, _++_}
+use mathlib.Core.Path.{_≡_, refl, ap}
+use Prim.Native.Nat.{ℕ, _+_, _≤_}
+use native.Mathlib.Omega.{arith}
+use lib.IntN.{ℤ, pos, negsuc}
+use lib.ListN.{replicate, length}
+use base.Fml.{Lft}
+use denote.Ref.{RefT}
+use Rattle.lemmas.specs.Small.{Small}
+use Rattle.lemmas.proofs.RuledOut.{_↛_, RuledOut, ever, ends, by, by-equation, list, wholes, lent}
+use Rattle.turn.specs.declared.Num.{Num}
+use Rattle.turn.specs.Number.{wholeN, complexN, _+N_, negN, _·N_, timesT, _*N_, powerN}
+use Rattle.turn.specs.Bounds.{Within}
+use Rattle.turn.proofs.Told.{within}
+use Rattle.paper.specs.declared.Ohms.{Ohms}
+use Rattle.paper.specs.declared.Seq.{Seq}
+use Rattle.paper.specs.declared.Fault.{Fault}
+use Rattle.paper.specs.Bounds.{AtMost, Flat, Plane, EachSeq, mostI, mostW}
+use Rattle.paper.specs.Kind.{ohms}
+use Rattle.paper.specs.Fault.{nilN, seq, Fault·open}
+use Rattle.paper.specs.Phase.{four, phases, Phase·open}
+use Rattle.paper.specs.Answer.{flat}
+use Rattle.node.specs.declared.Node.{Node}
+use Rattle.chain.specs.declared.share.Shared.{Shared}
+use Rattle.chain.specs.Carried.{carriedOf}
+use Rattle.fault.specs.Short.{shortedOf}
+use Rattle.board.specs.declared.front.Faulted.{Faulted}
+use Rattle.board.specs.Put.{twelveOf}
+use Rattle.board.specs.Faulted.{faultedFrom, topOf, FaultSmall}
+use Rattle.board.specs.Numbers.{leftOf, passedOf, numbersOf, ShareSmall}
+use Rattle.board.proofs.phases.phases.Reads as phases-at
+use Rattle.board.proofs.put.three.Reads as three
+use Rattle.board.proofs.put.thirteen.Reads as thirteen
+use Rattle.board.proofs.put.both.Reads as both
+use Rattle.board.proofs.front.fault_at.Reads as fault-at
+use Rattle.board.proofs.front.top.Reads as top
+use Rattle.board.proofs.board.Reads as board
+
+-- ---- numbers: tⁿ as a phase shows it, three phases, one and j
+abbrev t : ℕ → List ℤ
+t n = four (powerN n)
+
+abbrev turns : ℕ → ℕ → ℕ → List (List ℤ)
+turns a b c = t a ∷ t b ∷ t c ∷ []
+
+abbrev nothing : List (List ℤ)
+nothing = four nilN ∷ four nilN ∷ four nilN ∷ []
+
+abbrev one : Num
+one = wholeN (pos 1)
+
+abbrev j : Num
+j = complexN (pos 0) (pos 1)
+
+plane : (b : ℕ) {r x : ℤ} → Within b (complexN r x) → Plane b (complexN r x)
+plane b h = record { flat = record { no-t = refl; no-t² = refl }; within = h }
+
+each : (b : ℕ) {x y z : Num} → Plane b x → Plane b y → Plane b z → EachSeq (Plane b) (seq x y z)
+each b p q r = record { e1 = p; e2 = q; e0 = r }
+
+-- ---- what three phases show
+abbrev flatly : List (List ℤ) → ℕ
+flatly v = wholes (flat v)
+
+one-plane : Plane mostW one
+one-plane = plane mostW (within mostW one tt)
+
+nil-plane : Plane mostW nilN
+nil-plane = plane mostW (within mostW nilN tt)
+
+s1-plane : EachSeq (Plane mostW) (seq one nilN nilN)
+s1-plane = each mostW one-plane nil-plane nil-plane
+
+s2-plane : EachSeq (Plane mostW) (seq nilN one nilN)
+s2-plane = each mostW nil-plane one-plane nil-plane
+
+s0-plane : EachSeq (Plane mostW) (seq nilN nilN one)
+s0-plane = each mostW nil-plane nil-plane one-plane
+
+low : (p s : ℕ) → p ≤ 1 → s ≤ 1 → (p ≤ 2) × (s ≤ 2816) × (0 ≤ 2816)
+low p s h k = (omega (arith, h), omega (arith, k), omega arith)
+
+pub phases-not : RuledOut (phases-at.Pre tt) (ever (phases-at.Post tt)) (
+    (0, (0, (0, (seq one nilN nilN, tt)))) ↛ turns 0 4 8  -- b_c_exchanged
+    ∷ (1, (0, (0, (seq one nilN nilN, tt)))) ↛ turns 4 0 8  -- phase_of_p
+    ∷ (0, (1, (0, (seq nilN one nilN, tt)))) ↛ turns 11 3 7  -- same_turn
+    ∷ (0, (1, (0, (seq one nilN nilN, tt)))) ↛ turns 1 9 5  -- forward_by_d
+    ∷ (1, (0, (0, (seq nilN nilN one, tt)))) ↛ turns 4 4 4  -- phase_turn_4p
+    ∷ (1, (0, (0, (seq one nilN nilN, tt)))) ↛ turns 4 8 0  -- onward_exchanged
+    ∷ (0, (0, (0, (seq one nilN nilN, tt)))) ↛ (t 0 ∷ t 8 ∷ four (wholeN (negsuc 1)) ∷ [])  -- last_keeps_next
+    ∷ [])
+unfolding Phase·open _+N_ negN _·N_ timesT _*N_ powerN flat
+phases-not =
+    by-equation (λ a. phases (a .0) (a .1 .0) (a .1 .1 .0) (a .1 .1 .1 .0)) flatly (λ a z e s. s)
+    ((low 0 0 (omega arith) (omega arith), s1-plane), ((low 1 0 (omega arith) (omega arith), s1-plane), ((low 0 1 (omega arith) (omega arith), s2-plane), ((low 0 1 (omega arith) (omega arith), s1-plane), ((low 1 0 (omega arith) (omega arith), s0-plane), ((low 1 0 (omega arith) (omega arith), s1-plane), ((low 0 0 (omega arith) (omega arith), s1-plane), tt))))))) tt
+
+-- ---- what is put into a part of the buffer
+abbrev count : ℕ → List (List ℤ)
+count n = (pos n ∷ pos (n + 1) ∷ pos (n + 2) ∷ pos (n + 3) ∷ []) ∷ (pos (n + 4) ∷ pos (n + 5) ∷ pos (n + 6) ∷ pos (n + 7) ∷ []) ∷ (pos (n + 8) ∷ pos (n + 9) ∷ pos (n + 10) ∷ pos (n + 11) ∷ []) ∷ []
+
+-- n, n + 1 and so on, twelve of them
+abbrev twelve : ℕ → List ℤ
+twelve n = flat (count n)
+
+abbrev found : ℕ → RefT (List ℤ)
+found n = lent (replicate n (pos 0))
+
+-- the call with its part as it is left
+abbrev left : {A : Type 0} → RefT (List ℤ) × A → List ℤ → Unit {0} × (RefT (List ℤ) × A)
+left a zs = (tt, (lent zs, a .1))
+
+abbrev seen : {A : Type 0} → Unit {0} × (RefT (List ℤ) × A) → ℕ
+seen z = wholes (z .1 .0 .now)
+
+module _ (κ : Lft) where
+  pub three-not : RuledOut (three.Pre (κ, tt)) (ends (three.Post (κ, tt))) (
+      (found 12, (count 1, tt)) ↛ left (found 12, (count 1, tt)) (pos 1 ∷ pos 6 ∷ pos 11 ∷ pos 4 ∷ pos 5 ∷ pos 10 ∷ pos 3 ∷ pos 8 ∷ pos 9 ∷ pos 2 ∷ pos 7 ∷ pos 12 ∷ [])  -- phases_mixed
+      ∷ (found 12, (count 1, tt)) ↛ left (found 12, (count 1, tt)) (pos 1 ∷ pos 2 ∷ pos 3 ∷ pos 4 ∷ pos 5 ∷ pos 6 ∷ pos 7 ∷ pos 8 ∷ pos 9 ∷ pos 10 ∷ pos 11 ∷ pos 0 ∷ [])  -- last_number_left
+      ∷ [])
+  unfolding twelveOf
+  three-not = by seen (λ a. wholes (twelveOf (a .1 .0))) (λ a z s. ap wholes s) (refl, (refl, tt)) tt
+
+  pub thirteen-not : RuledOut (thirteen.Pre (κ, tt)) (ends (thirteen.Post (κ, tt))) (
+      (found 13, (pos 50, (count 1, tt))) ↛ left (found 13, (pos 50, (count 1, tt))) (twelve 1 ++ (pos 0 ∷ []))  -- d_overwritten
+      ∷ (found 13, (pos 50, (count 1, tt))) ↛ left (found 13, (pos 50, (count 1, tt))) (pos 0 ∷ twelve 1)  -- d_at_place_1
+      ∷ [])
+  unfolding twelveOf flat
+  thirteen-not = by seen (λ a. wholes (a .1 .0 ∷ twelveOf (a .1 .1 .0))) (λ a z s. ap wholes s) (refl, (refl, tt)) tt
+
+  pub both-not : RuledOut (both.Pre (κ, tt)) (ends (both.Post (κ, tt))) (
+      (found 24, (count 1, (count 20, tt))) ↛ left (found 24, (count 1, (count 20, tt))) (twelve 1 ++ twelve 1)  -- first_part_twice
+      ∷ (found 24, (count 1, (count 20, tt))) ↛ left (found 24, (count 1, (count 20, tt))) (twelve 20 ++ twelve 20)  -- second_part_first
+      ∷ [])
+  unfolding twelveOf flat
+  both-not = by seen (λ a. wholes (twelveOf (a .1 .0) ++ twelveOf (a .1 .1 .0))) (λ a z s. ap wholes s) (refl, (refl, tt)) tt
+
+-- ---- the fault at its board: one ohm in every sequence, so that D is 9 and every current 3
+abbrev ohm : Ohms
+ohm = ohms 1 0
+
+abbrev node : ℕ → ℕ → Node
+node start turn = record { z1 = ohm; z2 = ohm; z0 = ohm; feeder = 0; start = start; turn = turn }
+
+abbrev to-earth : Fault
+to-earth = record { zf = ohms 0 0; label = replicate 12 32; kind = 1; phase = 2 }
+
+abbrev faulted : Seq → ℤ → ℕ → ℕ → ℕ → Faulted
+faulted i d s t p = record { i = i; d = d; start = s; turn = t; phase = p }
+
+abbrev thrice : Num
+thrice = wholeN (pos 3)
+
+abbrev fields : Faulted → ℕ
+fields f = list (f .start ∷ f .turn ∷ f .phase ∷ [])
+
+small : {m r x : ℕ} → r ≤ m → x ≤ m → AtMost m (ohms r x)
+small h k = record { r-most = h; x-most = k }
+
+ohm-small : AtMost 4095 ohm
+ohm-small = small (omega arith) (omega arith)
+
+zf-small : AtMost 1365 (ohms 0 0)
+zf-small = small (omega arith) (omega arith)
+
+pub fault-at-not : RuledOut (fault-at.Pre tt) (ever (fault-at.Post tt)) (
+    (node 1 5, (to-earth, tt)) ↛ faulted (seq thrice thrice thrice) (pos 9) 1 5 1  -- currents_of_another_phase
+    ∷ (node 1 5, (to-earth, tt)) ↛ faulted (seq thrice thrice thrice) (pos 9) 5 5 2  -- start_is_turn
+    ∷ [])
+unfolding faultedFrom
+fault-at-not =
+    by-equation (λ a. faultedFrom (a .0) (a .1 .0)) fields (λ a z e s. s)
+    ((ohm-small, ohm-small, ohm-small, zf-small), ((ohm-small, ohm-small, ohm-small, zf-small), tt)) tt
+
+-- ---- the numbers of the fault, and of a board: D is 1, so that voltages are powers of t where nothing is shared; I1 is j, or I0 is 1
+abbrev forth : ℕ → Faulted
+forth k = faulted (seq j nilN nilN) (pos 1) k 0 0
+
+abbrev earth : ℕ → Faulted
+earth k = faulted (seq nilN nilN one) (pos 1) k 0 0
+
+abbrev alone : Shared
+alone = record { z1 = ohms 0 0; z2 = ohms 0 0; z0 = ohms 0 0 }
+
+no-ohms : AtMost 4095 (ohms 0 0)
+no-ohms = small (omega arith) (omega arith)
+
+alone-small : ShareSmall alone
+alone-small = record { share1 = no-ohms; share2 = no-ohms; share0 = no-ohms }
+
+i-nil : Plane mostI nilN
+i-nil = plane mostI (within mostI nilN tt)
+
+forth-small : (k : ℕ) → FaultSmall (forth k)
+forth-small k = record { d-small = record { small = omega arith }; i-small = each mostI (plane mostI (within mostI j tt)) i-nil i-nil; turn-small = omega arith; phase-to = omega arith }
+
+earth-small : (k : ℕ) → FaultSmall (earth k)
+earth-small k = record { d-small = record { small = omega arith }; i-small = each mostI i-nil i-nil (plane mostI (within mostI one tt)); turn-small = omega arith; phase-to = omega arith }
+
+asked : {f : Faulted} → FaultSmall f → (length (found 24 .now) ≡ 24) × FaultSmall f × ShareSmall alone × (0 ≤ 2816)
+asked h = (refl, h, alone-small, omega arith)
+
+abbrev board-call : Faulted → Bool → Node → RefT (List ℤ) × (Faulted × (Bool × (Node × (Shared × Unit {0}))))
+board-call f on n = (found 24, (f, (on, (n, (alone, tt)))))
+
+module _ (κ : Lft) where
+  pub top-not : RuledOut (top.Pre (κ, tt)) (ends (top.Post (κ, tt))) (
+      (found 13, (forth 1, tt)) ↛ left (found 13, (forth 1, tt)) (pos 1 ∷ flat (turns 2 10 6))  -- fault_turned
+      ∷ (found 13, (forth 1, tt)) ↛ left (found 13, (forth 1, tt)) (pos 1 ∷ flat (turns 4 0 8))  -- fault_turned_back
+      ∷ [])
+  unfolding topOf flat Phase·open _+N_ negN _·N_ timesT _*N_ powerN
+  top-not = by seen (λ a. wholes (topOf (a .1 .0))) (λ a z s. ap wholes s) ((refl, forth-small 1), ((refl, forth-small 1), tt)) tt
+
+  pub board-not : RuledOut (board.Pre (κ, tt)) (ends (board.Post (κ, tt))) (
+      board-call (forth 1) true (node 1 0) ↛ left (board-call (forth 1) true (node 1 0)) (flat (turns 3 11 7) ++ flat (turns 0 8 4))  -- currents_first
+      ∷ board-call (forth 1) true (node 1 0) ↛ left (board-call (forth 1) true (node 1 0)) (flat (turns 0 8 4) ++ flat (turns 0 8 4))  -- voltages_twice
+      ∷ board-call (forth 1) true (node 1 0) ↛ left (board-call (forth 1) true (node 1 0)) (flat (turns 0 8 4) ++ flat nothing)  -- chain_carries_nothing
+      ∷ board-call (forth 1) false (node 1 0) ↛ left (board-call (forth 1) false (node 1 0)) (flat (turns 0 8 4) ++ flat (turns 0 0 0))  -- none_is_one
+      ∷ board-call (forth 1) true (node 1 1) ↛ left (board-call (forth 1) true (node 1 1)) (flat (turns 1 9 5) ++ flat (turns 4 0 8))  -- turned_back
+      ∷ board-call (earth 1) true (node 2 0) ↛ left (board-call (earth 1) true (node 2 0)) (flat (turns 0 8 4) ++ flat (turns 0 0 0))  -- i0_through_kind_4
+      ∷ board-call (earth 0) true (node 0 0) ↛ left (board-call (earth 0) true (node 0 0)) (flat (turns 0 8 4) ++ flat (turns 0 0 0))  -- i0_without_earth
+      ∷ [])
+  unfolding numbersOf leftOf passedOf carriedOf flat Phase·open Fault·open _+N_ negN _·N_ timesT _*N_ powerN
+  board-not =
+      by seen (λ a. wholes (numbersOf (a .1 .0) (a .1 .1 .0) (a .1 .1 .1 .0) (a .1 .1 .1 .1 .0))) (λ a z s. ap wholes s)
+      (asked (forth-small 1), (asked (forth-small 1), (asked (forth-small 1), (asked (forth-small 1), ((refl, forth-small 1, alone-small, omega arith), (asked (earth-small 1), (asked (earth-small 0), tt))))))) tt

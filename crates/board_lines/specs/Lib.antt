@@ -1,2 +1,0 @@
--- what the boards' lines say
-pub mod Boards

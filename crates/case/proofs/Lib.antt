@@ -1,2 +1,0 @@
--- how many marks there are
-pub mod Marks

@@ -1,0 +1,92 @@
+-- What each contract of this crate rules out: a call that it allows, and an answer that it does not. Assumes nothing.
+use mathlib.Core.Bool.{Bool, true, false}
+use mathlib.Core.List.{List, [], _∷_, _++_}
+use Prim.Native.Nat.{ℕ, zero, suc, _+_, _*_, _≤_, zero-le}
+use native.Mathlib.Nat.{le-trans}
+use lib.Dec.{lit≤}
+use lib.IntN.{pos}
+use lib.ListN.{getD, replicate}
+use Rattle.lemmas.proofs.RuledOut.{_↛_, RuledOut, ever, by-equation, bool, list, wholes}
+use Rattle.turn.specs.Number.{wholeN}
+use Rattle.paper.specs.declared.Seq.{Seq}
+use Rattle.paper.specs.Kind.{ohms}
+use Rattle.paper.specs.Fault.{seq}
+use Rattle.paper.specs.Phase.{onlyIf, four}
+use Rattle.node.specs.declared.Node.{Node}
+use Rattle.node.specs.Node.{noNode}
+use Rattle.chain.specs.declared.share.Shared.{Shared}
+use Rattle.chain.specs.Share.{noShare, shareFrom}
+use Rattle.chain.specs.Carried.{carriedOf}
+use Rattle.chain.specs.Marked.{FromEarlier, climb, marked, marksOf}
+use Rattle.chain.proofs.share.no_share.Reads as no-share
+use Rattle.chain.proofs.share.share.Reads as share
+use Rattle.chain.proofs.carried.carried.Reads as carried
+use Rattle.chain.proofs.chain.Reads as chain
+
+-- ---- answers told apart
+abbrev parts : Shared → ℕ
+parts s = list (s .z1 .r ∷ s .z1 .x ∷ s .z2 .r ∷ s .z2 .x ∷ s .z0 .r ∷ s .z0 .x ∷ [])
+
+abbrev currents : Seq → ℕ
+currents i = wholes (four (i .s1) ++ four (i .s2) ++ four (i .s0))
+
+abbrev bits : List Bool → ℕ
+bits [] = 0
+bits (b ∷ bs) = bool b + 2 * bits bs
+
+-- ---- impedances, currents, and a node of the feeder given
+abbrev shared : ℕ → ℕ → ℕ → Shared
+shared x1 x2 x0 = record { z1 = ohms 0 x1; z2 = ohms 0 x2; z0 = ohms 0 x0 }
+
+abbrev wholeSeq : ℕ → ℕ → ℕ → Seq
+wholeSeq i1 i2 i0 = seq (wholeN (pos i1)) (wholeN (pos i2)) (wholeN (pos i0))
+
+abbrev fed : ℕ → Node
+fed f = record { z1 = ohms 0 1; z2 = ohms 0 2; z0 = ohms 0 3; feeder = f; start = 1; turn = 0 }
+
+-- two boards, one behind the other
+abbrev two : List Node
+two = fed 0 ∷ fed 1 ∷ replicate 254 noNode
+
+two-earlier : FromEarlier two
+two-earlier = record { earlier = each }
+  where
+    none : (n i : ℕ) → getD (replicate n noNode) i noNode .feeder ≤ 0
+    none zero i = lit≤ tt
+    none (suc n) zero = lit≤ tt
+    none (suc n) (suc i) = none n i
+
+    each : (i : ℕ) → getD two i noNode .feeder ≤ i
+    each zero = lit≤ tt
+    each (suc zero) = lit≤ tt
+    each (suc (suc i)) = le-trans (none 254 i) zero-le
+
+-- ---- the contracts
+pub no-share-not : RuledOut (no-share.Pre tt) (ever (no-share.Post tt)) (
+    tt ↛ record { z1 = ohms 1 0; z2 = ohms 1 0; z0 = ohms 1 0 }  -- r_shared_by_none
+    ∷ tt ↛ shared 1 1 1  -- x_shared_by_none
+    ∷ [])
+no-share-not = by-equation (λ a. noShare) parts (λ a z e s. s) (tt, (tt, tt)) tt
+
+pub share-not : RuledOut (share.Pre tt) (ever (share.Post tt)) (
+    (true, (fed 0, (1, (shared 4 5 6, tt)))) ↛ shared 1 1 3  -- negative_like_positive
+    ∷ (true, (fed 0, (1, (shared 4 5 6, tt)))) ↛ shared 4 2 3  -- own_and_feeder_exchanged
+    ∷ (true, (fed 0, (2, (shared 4 5 6, tt)))) ↛ shared 1 2 3  -- zero_of_any_start
+    ∷ [])
+unfolding shareFrom
+share-not = by-equation (λ a. shareFrom (a .0) (a .1 .0) (a .1 .1 .0) (a .1 .1 .1 .0)) parts (λ a z e s. s) (tt, (tt, (tt, tt))) tt
+
+pub carried-not : RuledOut (carried.Pre tt) (ever (carried.Post tt)) (
+    (true, (false, (wholeSeq 1 2 3, tt))) ↛ wholeSeq 1 2 3  -- i0_through_delta
+    ∷ (true, (true, (wholeSeq 1 2 3, tt))) ↛ wholeSeq 1 1 3  -- i1_for_i2
+    ∷ (false, (false, (wholeSeq 1 2 3, tt))) ↛ wholeSeq 1 1 1  -- one_for_none
+    ∷ [])
+unfolding carriedOf onlyIf
+carried-not = by-equation (λ a. carriedOf (a .0) (a .1 .0) (a .1 .1 .0)) currents (λ a z e s. s) (tt, (tt, (tt, tt))) tt
+
+pub chain-not : RuledOut (chain.Pre tt) (ever (chain.Post tt)) (
+    (two, (2, tt)) ↛ (false ∷ true ∷ true ∷ replicate 253 false)  -- marked_from_0
+    ∷ (two, (2, tt)) ↛ replicate 256 false  -- nothing_marked
+    ∷ [])
+unfolding marksOf climb marked
+chain-not = by-equation (λ a. marksOf (a .0) (a .1 .0)) bits (λ a z e s. s) ((lit≤ tt, two-earlier), ((lit≤ tt, two-earlier), tt)) tt

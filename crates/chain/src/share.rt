@@ -1,0 +1,49 @@
+// The impedances that each board shares with the faulted one.
+ghost use mathlib.Core.Bool.{cond};
+ghost use mathlib.Core.Path.{_≡_};
+ghost use Rattle.chain.specs.Share.{noShare, shareFrom};
+use node::Node;
+use paper::Ohms;
+
+// The impedances that a board shares with the faulted one.
+pub struct Shared {
+    pub z1: Ohms,
+    pub z2: Ohms,
+    pub z0: Ohms,
+}
+
+// What no board shares.
+pub fn no_share() -> Shared
+    ensures { λ r. ⌜ r ≡ noShare ⌝ }
+{
+    let nothing = Ohms { r: 0, x: 0 };
+    Shared {
+        z1: nothing,
+        z2: nothing,
+        z0: nothing,
+    }
+}
+
+fn pick(first: bool, a: Ohms, b: Ohms) -> Ohms
+    ensures { λ r. ⌜ r ≡ cond first a b ⌝ }
+{
+    if first { a } else { b }
+}
+
+// What a record shares, from what its feeder shares: all of its own sums on the chain, else the feeder's; no zero sequence where the two boards' starts differ.
+pub fn share(on: bool, node: Node, start: u16, up: Shared) -> Shared
+    ensures { λ r. ⌜ r ≡ shareFrom on node start up ⌝ }
+{
+    let none = Ohms { r: 0, x: 0 };
+    let own1 = node.z1;
+    let own2 = node.z2;
+    let own0 = node.z0;
+    let up1 = up.z1;
+    let up2 = up.z2;
+    let up0 = up.z0;
+    let z1 = pick(on, own1, up1);
+    let z2 = pick(on, own2, up2);
+    let on0 = pick(on, own0, up0);
+    let z0 = pick(node.start == start, on0, none);
+    Shared { z1, z2, z0 }
+}

@@ -1,2 +1,0 @@
--- A theorem about three phases' numbers. It needs no believing.
-pub mod Twelve

@@ -1,0 +1,62 @@
+// What stands at a place of a record's bytes, little-endian: a number, an impedance, a label.
+ghost use mathlib.Core.List.{_∷_};
+ghost use mathlib.Core.Path.{_≡_};
+ghost use Prim.Native.Nat.{_+_, _*_, _<_};
+ghost use lib.ListN.{length};
+ghost use Rattle.lemmas.proofs.Table.{tab};
+ghost use Rattle.paper.specs.Bytes.{u8At, u16At, within};
+ghost use Rattle.paper.specs.File.{ohmsAt};
+use paper::Ohms;
+
+// The byte that closes a label.
+pub const SPACE: u8 = 0x20;
+
+pub fn pair(low: u8, high: u8) -> u16
+    ensures { λ r. ⌜ r ≡ low + 256 * high ⌝ }
+{
+    (low as u16) + 256 * (high as u16)
+}
+
+pub fn u16_at(s: &[u8], i: usize) -> u16
+    requires { ⌜ i + 1 < length (now s) ⌝ }
+    ensures { λ r. ⌜ r ≡ u16At (now (s .entry)) i ⌝ }
+{
+    pair(s[i], s[i + 1])
+}
+
+// From least to most, ends included.
+pub fn in_range(least: u16, most: u16, n: u16) -> bool
+    ensures { λ r. ⌜ r ≡ within least most n ⌝ }
+{
+    (least <= n) & (n <= most)
+}
+
+pub(crate) fn ohms_at(s: &[u8], i: usize) -> Ohms
+    requires { ⌜ i + 3 < length (now s) ⌝ }
+    ensures { λ r. ⌜ r ≡ ohmsAt (now (s .entry)) i ⌝ }
+{
+    let r = u16_at(s, i);
+    let x = u16_at(s, i + 2);
+    Ohms { r, x }
+}
+
+// The contract names the bytes as the code reads them, so that it needs no proof.
+pub(crate) fn label_at(s: &[u8], i: usize) -> [u8; 12]
+    requires { ⌜ i + 11 < length (now s) ⌝ }
+    ensures { λ r. ⌜ r ≡ u8At (now (s .entry)) i ∷ tab (λ n. u8At (now (s .entry)) (i + n)) 1 11 ⌝ }
+{
+    [
+        s[i],
+        s[i + 1],
+        s[i + 2],
+        s[i + 3],
+        s[i + 4],
+        s[i + 5],
+        s[i + 6],
+        s[i + 7],
+        s[i + 8],
+        s[i + 9],
+        s[i + 10],
+        s[i + 11],
+    ]
+}

@@ -1,2 +1,0 @@
--- a label's form, from the back
-pub mod FromTheBack

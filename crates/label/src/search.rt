@@ -1,0 +1,39 @@
+// A label is looked for in a lent slice of boards, from the front.
+use crate::same_label;
+use paper::Board;
+ghost use mathlib.Core.Path.{_≡_};
+ghost use Prim.Native.Nat.{_≤_};
+ghost use lib.ListN.{take};
+ghost use Rattle.paper.specs.Label.{sameLabel};
+ghost use Rattle.paper.specs.Chain.{placeOf};
+
+// Whether the label is the board's.
+pub(crate) fn labelled(b: Board, label: [u8; 12]) -> bool
+    ensures { λ r. ⌜ r ≡ sameLabel label (b .label) ⌝ }
+{
+    let l = b.label;
+    same_label(label, l)
+}
+
+// The first place whose twelve bytes agree, counted from 1; none: 0.
+pub(crate) fn find(boards: &[Board], label: [u8; 12]) -> usize
+    ensures { λ r. ⌜ r ≡ placeOf label (now (boards .entry)) ⌝ }
+{
+    let mut i = 0;
+    while i < boards.len() {
+        let b = boards[i];
+        i += 1;
+        if labelled(b, label) {
+            return i;
+        }
+    }
+    0
+}
+
+// Of the first n boards of a table. Whoever calls this needs no walk.
+pub fn lookup(table: [Board; 256], n: usize, label: [u8; 12]) -> usize
+    requires { ⌜ n ≤ 256 ⌝ }
+    ensures { λ r. ⌜ r ≡ placeOf label (take n table) ⌝ }
+{
+    find(&table[..n], label)
+}

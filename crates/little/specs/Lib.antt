@@ -1,2 +1,0 @@
--- a number's bytes
-pub mod Little

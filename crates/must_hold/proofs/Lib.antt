@@ -1,3 +1,0 @@
--- What the proofs of the functions cite.
--- the kind table, row by row
-mod Rows

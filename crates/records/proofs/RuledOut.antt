@@ -1,0 +1,134 @@
+-- What each contract of this crate rules out: a call that it allows, and an answer that it does not. Assumes nothing.
+use mathlib.Core.Bool.{false}
+use mathlib.Core.List.{List, [], _∷_, _++_}
+use mathlib.Core.Path.{refl}
+use Prim.Native.Nat.{ℕ}
+use lib.Dec.{T, leb, lit≤}
+use lib.ListN.{replicate}
+use base.Fml.{Lft}
+use Rattle.lemmas.proofs.RuledOut.{_↛_, RuledOut, ever, by, by-equation, bool, list, lent}
+use Rattle.paper.specs.declared.Ohms.{Ohms}
+use Rattle.paper.specs.declared.Board.{Board}
+use Rattle.paper.specs.Bounds.{AtMost}
+use Rattle.paper.specs.Bytes.{Bytes·open}
+use Rattle.paper.specs.Label.{Label·open}
+use Rattle.paper.specs.Kind.{ohms, Kind·open}
+use Rattle.paper.specs.File.{BD, recordsOf, boardsOf, File·open}
+use Rattle.paper.specs.Rows.{Rows·open}
+use Rattle.paper.specs.Refusal.{recordsRefusal, Refusal·open}
+use Rattle.label.specs.Places.{placesOf}
+use Rattle.node.specs.declared.Node.{Node}
+use Rattle.node.specs.Node.{noNode, OwnSmall, UpSmall, withZero, nodeFrom, nodeOver}
+use Rattle.node.specs.Tables.{table, emptyBoard}
+use Rattle.records.specs.declared.Step.{Step}
+use Rattle.records.specs.declared.Judged.{Judged}
+use Rattle.records.specs.Rules.{fedWrong, broken, numberOf, earlier, stepOf}
+use Rattle.records.proofs.One.{placeSaid, place-is}
+use Rattle.records.proofs.sums.no_node.Reads as no-node
+use Rattle.records.proofs.sums.node_over.Reads as node-over
+use Rattle.records.proofs.sums.node_from.Reads as node-from
+use Rattle.records.proofs.rules.earlier.Reads as earlier-at
+use Rattle.records.proofs.rules.step.Reads as step
+use Rattle.records.proofs.judge.Reads as judge
+
+-- ---- answers told apart
+abbrev fields : Node → List ℕ
+fields n = n .z1 .r ∷ n .z1 .x ∷ n .z2 .r ∷ n .z2 .x ∷ n .z0 .r ∷ n .z0 .x ∷ n .feeder ∷ n .start ∷ n .turn ∷ []
+
+-- ---- nodes and boards
+abbrev node : Ohms → Ohms → Ohms → ℕ → ℕ → ℕ → Node
+node z1 z2 z0 f s t = record { z1 = z1; z2 = z2; z0 = z0; feeder = f; start = s; turn = t }
+
+abbrev board : ℕ → ℕ → Ohms → Board
+board k c z2 = record { z1 = ohms 0 1; z2 = z2; z0 = ohms 0 1; zn = ohms 0 0; label = 65 ∷ replicate 11 32; feeder = 66 ∷ replicate 11 32; kind = k; clock = c }
+
+abbrev none : Ohms
+none = ohms 0 0
+
+abbrev j1 : Ohms
+j1 = ohms 0 1
+
+abbrev j2 : Ohms
+j2 = ohms 0 2
+
+-- a node above; one without earth return; one whose sum is one short of too much
+abbrev up : Node
+up = node j1 j1 j1 0 1 0
+
+abbrev up-none : Node
+up-none = node j1 j1 none 0 0 0
+
+abbrev up-most : Node
+up-most = node (ohms 0 4095) j1 j1 0 1 0
+
+-- a record judged; a network of one record without a mark, judged
+abbrev said : ℕ → Node → Step
+said number n = record { node = n; number = number }
+
+abbrev net : List ℕ
+net = replicate 6 0 ++ (1 ∷ replicate 45 0)
+
+abbrev placed : ℕ → Judged
+placed r = record { nodes = table noNode []; place = r; number = 5 }
+
+-- ---- what the contracts ask
+small : (x : ℕ) → T (leb x 4095) → AtMost 4095 (ohms 0 x)
+small x h = record { r-most = lit≤ tt; x-most = lit≤ h }
+
+own-small : (k c x : ℕ) → T (leb c 11) → T (leb x 4095) → OwnSmall (board k c (ohms 0 x))
+own-small k c x h h2 = record { own1 = small 1 tt; own2 = small x h2; own0 = small 1 tt; own-n = small 0 tt; own-clock = lit≤ h }
+
+up-small : (x x0 s : ℕ) → T (leb x 4095) → T (leb x0 4095) → UpSmall (node (ohms 0 x) j1 (ohms 0 x0) 0 s 0)
+up-small x x0 s h h0 = record { up1 = small x h; up2 = small 1 tt; up0 = small x0 h0; up-turn = lit≤ tt }
+
+-- ---- the contracts
+pub no-node-not : RuledOut (no-node.Pre tt) (ever (no-node.Post tt)) (
+    tt ↛ node none none none 1 0 0  -- feeder_above_record_1
+    ∷ tt ↛ node none none none 0 0 1  -- turned_above_record_1
+    ∷ [])
+no-node-not = by-equation (λ a. noNode) (λ n. list (fields n)) (λ a z e s. s) (tt, (tt, tt)) tt
+
+pub node-over-not : RuledOut (node-over.Pre tt) (ever (node-over.Post tt)) (
+    (node (ohms 4096 0) none none 0 0 0, tt) ↛ false  -- sum_of_4096
+    ∷ (node none none (ohms 4096 0) 0 0 0, tt) ↛ false  -- z0_sum_untested
+    ∷ [])
+unfolding nodeOver Kind·open
+node-over-not = by-equation (λ a. nodeOver (a .0)) bool (λ a z e s. s) (tt, (tt, tt)) tt
+
+pub node-from-not : RuledOut (node-from.Pre tt) (ever (node-from.Post tt)) (
+    (2, (board 4 1 j1, (1, (up, tt)))) ↛ node j2 j2 j1 1 1 1  -- kind_4_goes_on
+    ∷ (2, (board 2 0 j1, (1, (up-none, tt)))) ↛ node j2 j2 j1 1 0 0  -- missing_return_is_zero
+    ∷ (2, (board 2 0 j2, (1, (up, tt)))) ↛ node j2 j2 j2 1 1 0  -- z2_of_z1
+    ∷ [])
+unfolding nodeFrom withZero Kind·open
+node-from-not =
+    by-equation (λ a. nodeFrom (a .0) (a .1 .0) (a .1 .1 .0) (a .1 .1 .1 .0)) (λ n. list (fields n)) (λ a z e s. s)
+    ((own-small 4 1 1 tt tt, up-small 1 1 1 tt tt), ((own-small 2 0 1 tt tt, up-small 1 0 0 tt tt), ((own-small 2 0 2 tt tt, up-small 1 1 1 tt tt), tt))) tt
+
+pub earlier-not : RuledOut (earlier-at.Pre tt) (ever (earlier-at.Post tt)) (
+    (3, (2, tt)) ↛ 0  -- no_feeder
+    ∷ (3, (3, tt)) ↛ 3  -- own_feeder
+    ∷ [])
+unfolding earlier
+earlier-not = by-equation (λ a. earlier (a .0) (a .1 .0)) (λ n. n) (λ a z e s. s .0) (tt, (tt, tt)) tt
+
+pub step-not : RuledOut (step.Pre tt) (ever (step.Post tt)) (
+    (2, (BD, (board 2 0 j1, (1, (1, (up, tt)))))) ↛ said 8 noNode  -- seven_said_eight
+    ∷ (2, (BD, (board 2 0 j1, (2, (3, (up, tt)))))) ↛ said 0 (node j2 j2 j2 0 1 0)  -- feeder_later_too
+    ∷ (2, (BD, (board 2 0 j2, (2, (1, (up, tt)))))) ↛ said 11 noNode  -- ten_said_eleven
+    ∷ (2, (BD, (board 2 0 j1, (2, (1, (up-most, tt)))))) ↛ said 10 (node (ohms 0 4096) j2 j2 1 1 0)  -- eleven_said_ten
+    ∷ [])
+unfolding stepOf earlier nodeOver nodeFrom withZero broken numberOf fedWrong Kind·open Label·open Bytes·open Refusal·open
+step-not =
+    by-equation (λ a. stepOf (a .0) (a .1 .0) (a .1 .1 .0) (a .1 .1 .1 .0) (a .1 .1 .1 .1 .0) (a .1 .1 .1 .1 .1 .0)) (λ s. list (s .number ∷ fields (s .node))) (λ a z e s. s)
+    ((lit≤ tt, up-small 1 1 1 tt tt), ((lit≤ tt, up-small 1 1 1 tt tt), ((lit≤ tt, up-small 1 1 1 tt tt), ((lit≤ tt, up-small 4095 1 1 tt tt), tt)))) tt
+
+module _ (κ : Lft) where
+  pub judge-not : RuledOut (judge.Pre (κ, tt)) (ever (judge.Post (κ, tt))) (
+      (lent net, (1, (table emptyBoard (boardsOf net), (placesOf (boardsOf net), tt)))) ↛ placed 2  -- counted_from_0
+      ∷ (lent net, (1, (table emptyBoard (boardsOf net), (placesOf (boardsOf net), tt)))) ↛ placed 0  -- place_from_0
+      ∷ [])
+  unfolding placeSaid File·open Refusal·open Rows·open
+  judge-not =
+      by (λ z. z .place) (λ a. placeSaid (recordsRefusal [] (recordsOf (a .0 .now)))) (λ a z s. place-is (a .0 .now) z (s .1))
+      ((refl, lit≤ tt, refl, refl, refl), ((refl, lit≤ tt, refl, refl, refl), tt)) tt

@@ -1,2 +1,0 @@
--- Theorems about one pass over the records. None needs believing.
-pub mod Pass

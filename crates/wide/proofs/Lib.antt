@@ -1,2 +1,0 @@
--- The theorems of the crate, for its own proofs and for the crates above.
-pub mod Laws

@@ -1,2 +1,0 @@
--- What the contracts of this crate cite besides the paper's definitions.
-pub mod Zero

@@ -1,9 +1,0 @@
--- The enum of each word that the kind table says of zero sequence. Assumes nothing.
-use Rattle.paper.specs.Kind.{Zero, starts, goes-on, none}
-use Rattle.zero.specs.declared.ZeroWord.{ZeroWord}
-use Rattle.zero.specs.declared.ZeroWord.the-variants.{Starts, GoesOn, Blocked}
-
-unfoldable pub zeroWord : Zero → ZeroWord
-zeroWord (starts t) = Starts
-zeroWord (goes-on t) = GoesOn
-zeroWord none = Blocked
