@@ -1,4 +1,4 @@
-// The answer in the caller's buffer: D and the fault's currents, then the 24 numbers of each board in file order.
+// The answer in the caller's buffer: D and the fault's currents, then the 24 numbers of each board in one pass in file order; and the amps.
 mod pass;
 
 ghost use mathlib.Core.Path.{_≡_};

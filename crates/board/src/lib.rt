@@ -1,4 +1,4 @@
-// The numbers of one board.
+// The numbers of one board: voltages and currents, turned to its phases, in its part of the buffer. In `front`, what stands before all boards.
 pub mod front;
 mod phases;
 mod put;

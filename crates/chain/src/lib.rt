@@ -1,4 +1,4 @@
-// Which records lie on the faulted board's chain.
+// Which records lie on the faulted board's chain; in the modules what each board shares with it, and what each record carries to the fault.
 pub mod carried;
 pub mod share;
 

@@ -1,4 +1,5 @@
-// Bytes and numbers as text, written into a lent buffer. Each function writes from a place on and returns the place behind.
+// Bytes and numbers as text, written into a lent buffer; in the modules numbers in a row, and numbers as bytes.
+// Each function writes from a place on and returns the place behind.
 pub mod little;
 pub mod row;
 

@@ -1,4 +1,4 @@
-// The four faults at a board: D, and the currents over it.
+// The four faults at a board: D, and the currents over it; in the modules what they are divided by, and the voltages that they leave at a board.
 mod divisor;
 pub mod volts;
 

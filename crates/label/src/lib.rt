@@ -1,4 +1,5 @@
-// Labels compared. Whoever compares two calls `same_label`.
+// Labels: whether two are the same, and in the modules their form (6) and where one first stands among the boards.
+// Whoever compares two calls `same_label`.
 pub mod formed;
 pub mod places;
 pub mod search;

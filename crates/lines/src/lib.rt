@@ -1,4 +1,4 @@
-// The lines of an answer that need no network, written into a lent buffer: a refusal's, the fault's, those of three phases.
+// The lines of an answer, written into a lent buffer: a refusal's, the fault's, those of three phases; in the modules labels, and the lines of the boards.
 pub mod boards;
 mod name;
 
