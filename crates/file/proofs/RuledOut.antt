@@ -6,7 +6,7 @@ use Prim.Native.Nat.{ℕ, _+_, _*_}
 use native.Mathlib.Omega.{arith}
 use lib.ListN.{replicate, getD}
 use base.Fml.{Lft}
-use Rattle.lemmas.proofs.Table.{tab}
+use Rattle.lemmas.specs.Table.{tab}
 use Rattle.lemmas.proofs.RuledOut.{_↛_, RuledOut, ever, by-equation, bool, list, lent}
 use Rattle.paper.specs.declared.Ohms.{Ohms}
 use Rattle.paper.specs.declared.Head.{Head}

@@ -3,7 +3,7 @@ ghost use mathlib.Core.List.{_∷_};
 ghost use mathlib.Core.Path.{_≡_};
 ghost use Prim.Native.Nat.{_+_, _*_, _<_};
 ghost use lib.ListN.{length};
-ghost use Rattle.lemmas.proofs.Table.{tab};
+ghost use Rattle.lemmas.specs.Table.{tab};
 ghost use Rattle.paper.specs.Bytes.{u8At, u16At, within};
 ghost use Rattle.paper.specs.File.{ohmsAt};
 use paper::Ohms;

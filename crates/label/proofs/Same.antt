@@ -9,7 +9,7 @@ use lib.ListN.{length}
 use mir.Syntax.{w8}
 use mir.Val.{Fits}
 use borrow.Author.Tests.{eq-eqb, ne-eqb, eqb-true, eqb-false}
-use Rattle.lemmas.proofs.Table.{tab}
+use Rattle.lemmas.specs.Table.{tab}
 use Rattle.paper.specs.Bytes.{u8At, sameBytes}
 use Rattle.paper.specs.Label.{sameLabel}
 use Rattle.label.specs.Words.{littleEndian}

@@ -5,7 +5,7 @@ pub mod places;
 pub mod search;
 
 ghost use mathlib.Core.Path.{_≡_};
-ghost use Rattle.lemmas.proofs.Table.{tab};
+ghost use Rattle.lemmas.specs.Table.{tab};
 ghost use Rattle.paper.specs.Bytes.{u8At, sameBytes};
 ghost use Rattle.paper.specs.Label.{spaces, sameLabel};
 ghost use Rattle.label.specs.Words.{littleEndian};

@@ -7,6 +7,7 @@ use Prim.Native.Nat.{ℕ, zero, suc, _+_, _<_}
 use native.Mathlib.Nat.{add-zero, zero-add, add-suc, suc-add, le-of-suc-le-suc, not-suc-le-zero}
 use lib.Dec.{T}
 use lib.ListN.{getD}
+use Rattle.lemmas.specs.Table.{tab}
 use Rattle.lemmas.proofs.Bools.{bothT}
 
 -- a proof for each of i, i + 1, .., k of them
@@ -34,10 +35,7 @@ passed p i (suc k) t = let h = bothT (p i) (every p (suc i) k) t in (h .0, passe
 pub every-at : (p : ℕ → Bool) (k n : ℕ) → n < k → T (every p 0 k) → T (p n)
 every-at p k n h t = each-at (λ m. T (p m)) k n h (passed p 0 k t)
 
--- ---- the table of f at i, i + 1, .., k of them
-abbrev pub tab : {X : Type 0} → (ℕ → X) → ℕ → ℕ → List X
-tab f i zero = []
-tab f i (suc k) = f i ∷ tab f (suc i) k
+-- ---- a list by a rule, at each place
 
 tab-from : {X : Type 0} (f : ℕ → X) (d : X) (i k n : ℕ) → n < k → getD (tab f i k) n d ≡ f (i + n)
 tab-from f d i zero n h = absurd (not-suc-le-zero h)

@@ -1,3 +1,4 @@
--- The two definitions of this crate that contracts cite. The rest of the crate is proof (proofs/Lib.antt).
+-- The three definitions of this crate that contracts cite. The rest of the crate is proof (proofs/Lib.antt).
 pub mod Small
 pub mod Over
+pub mod Table

@@ -112,6 +112,27 @@ steep0 = bd "GEN" "" 0 0 (ohms 20 0) (ohms 20 0) (ohms 4095 0) (j 0)
 unfoldable pub short : List ℕ
 short = bd "HALL" "GEN" 2 0 (ohms 1 1) (ohms 1 1) (ohms 1 1) (j 0)
 
+unfoldable pub one : List ℕ
+one = bd "GEN" "" 0 0 (j 1) (j 1) (j 0) (j 0)
+
+unfoldable pub unturned : List ℕ
+unturned = bd "BLOCK" "GEN" 5 0 (ohms 1 9) (ohms 1 9) (j 0) (j 0)
+
+unfoldable pub neutral1 : List ℕ
+neutral1 = bd "GEN" "" 1 0 (j 20) (j 20) (j 0) (j 5)
+
+unfoldable pub neutral2 : List ℕ
+neutral2 = bd "HALL" "GEN" 2 0 (j 20) (j 20) (j 20) (j 5)
+
+unfoldable pub zero5 : List ℕ
+zero5 = bd "HALL" "GEN" 5 0 (j 20) (j 20) (j 20) (j 0)
+
+unfoldable pub rubout : List ℕ
+rubout = bd "GE\u{7f}N" "" 0 0 (j 20) (j 20) (j 5) (j 5)
+
+unfoldable pub neutral4096 : List ℕ
+neutral4096 = bd "BEHIND" "BLOCK" 3 0 (ohms 1 2) (ohms 1 2) (j 9) (ohms 4096 0)
+
 -- "Head: 230 V, unit 1,000. Record 1 GEN .. Record 2 BOOTH-WEST-1 .. Record 3 HALL"
 unfoldable pub net3 : List ℕ
 net3 = head 230 1000 3 ++ gen ++ booth ++ hall
@@ -121,7 +142,7 @@ unfoldable pub net1 : List ℕ
 net1 = head 230 1000 1 ++ gen
 
 unfoldable records : Unit {0}
-unfolding gen booth hall gen1365 gen1366 twice booth2 example lop star under block beyond behind bare gap blank lost spaced fed even second sixth cable1 uneven nil over most steep1 steep2 steep0 short net3 net1
+unfolding gen booth hall gen1365 gen1366 twice booth2 example lop star under block beyond behind bare gap blank lost spaced fed even second sixth cable1 uneven nil over most steep1 steep2 steep0 short one unturned neutral1 neutral2 zero5 rubout neutral4096 net3 net1
 records = tt
 
 -- ---- the cases marked *
@@ -174,6 +195,8 @@ others =
     ∷ call net1 (take 19 (ft "GEN" 0 0 (j 0))) 0 (refused 12 0 (part FaultBytes 0 19)) ([])
     -- 003's one-phase example: 5.5648 per unit in all
     ∷ call (head 1000 10 1 ++ example) (ft "GEN" 1 0 (j 0)) 37 (taken 1 1 55648) (at 0 (pos 29062881 ∷ []) ∷ at 1 (pos 0 ∷ pos 0 ∷ pos 0 ∷ neg 16173 ∷ []) ∷ [])
+    -- the most amps that there are: 1,000 V, 10 microohms, two phases to earth at one count
+    ∷ call (head 1000 10 1 ++ one) (ft "GEN" 3 0 (j 0)) 37 (taken 1 1 300000000) ([])
     -- Zf counts three times in kind 1
     ∷ call net3 (ft "BOOTH-WEST-1" 1 0 (ohms 10 0)) 85 (taken 2 3 3270) (at 0 (pos 44500 ∷ []) ∷ at 1 (pos 540 ∷ pos 0 ∷ pos 0 ∷ neg 330 ∷ []) ∷ [])
     -- Zf counts once in kind 2, phase 1 is healthy
@@ -222,6 +245,8 @@ others =
     ∷ call (head 230 1000 1 ++ gap) (ft "GEN" 0 0 (j 0)) 37 (refused 6 1 (part NetworkBytes 8 44)) ([])
     -- 6: no letter
     ∷ call (head 230 1000 1 ++ blank) (ft "GEN" 0 0 (j 0)) 37 (refused 6 1 (part NetworkBytes 8 44)) ([])
+    -- 6: 0x7F inside
+    ∷ call (head 230 1000 1 ++ rubout) (ft "GEN" 0 0 (j 0)) 37 (refused 6 1 (part NetworkBytes 8 44)) ([])
     -- 8 before 9: unknown feeder, unknown kind
     ∷ call (head 230 1000 2 ++ gen ++ lost) (ft "GEN" 0 0 (j 0)) 61 (refused 8 2 (part NetworkBytes 52 44)) ([])
     -- 8: twelve spaces feed record 1 alone
@@ -230,6 +255,8 @@ others =
     ∷ call (head 230 1000 1 ++ fed) (ft "GEN" 0 0 (j 0)) 37 (refused 8 1 (part NetworkBytes 8 44)) ([])
     -- 9: an even clock in kind 4
     ∷ call (head 230 1000 2 ++ gen ++ even) (ft "GEN" 0 0 (j 0)) 61 (refused 9 2 (part NetworkBytes 52 44)) ([])
+    -- kind 5 with clock 0
+    ∷ call (head 230 1000 2 ++ gen ++ unturned) (ft "GEN" 0 0 (j 0)) 61 (taken 1 2 11500) ([])
     -- 9: a source in record 2
     ∷ call (head 230 1000 2 ++ gen ++ second) (ft "GEN" 0 0 (j 0)) 61 (refused 9 2 (part NetworkBytes 52 44)) ([])
     -- 9: no such kind
@@ -240,6 +267,14 @@ others =
     ∷ call (head 230 1000 2 ++ gen ++ uneven) (ft "GEN" 0 0 (j 0)) 61 (refused 10 2 (part NetworkBytes 52 44)) ([])
     -- 10: a source with z2 zero
     ∷ call (head 230 1000 1 ++ nil) (ft "GEN" 0 0 (j 0)) 37 (refused 10 1 (part NetworkBytes 8 44)) ([])
+    -- 10: an unearthed source with zn
+    ∷ call (head 230 1000 1 ++ neutral1) (ft "GEN" 0 0 (j 0)) 37 (refused 10 1 (part NetworkBytes 8 44)) ([])
+    -- 10: a cable with zn
+    ∷ call (head 230 1000 2 ++ gen ++ neutral2) (ft "GEN" 0 0 (j 0)) 61 (refused 10 2 (part NetworkBytes 52 44)) ([])
+    -- 10: kind 5 with z0
+    ∷ call (head 230 1000 2 ++ gen ++ zero5) (ft "GEN" 0 0 (j 0)) 61 (refused 10 2 (part NetworkBytes 52 44)) ([])
+    -- 10: zn of 4,096, in no sum
+    ∷ call (head 230 1000 3 ++ gen ++ block ++ neutral4096) (ft "GEN" 0 0 (j 0)) 85 (refused 10 3 (part NetworkBytes 96 44)) ([])
     -- 10 before 11: 4,096
     ∷ call (head 230 1000 2 ++ gen ++ over) (ft "GEN" 0 0 (j 0)) 61 (refused 10 2 (part NetworkBytes 52 44)) ([])
     -- 11: a part of Z1 is 4,096
@@ -260,6 +295,8 @@ others =
     ∷ call net1 (ft "GEN" 0 1 (j 0)) 37 (refused 16 0 (part FaultBytes 0 20)) ([])
     -- 16: phase over 2
     ∷ call net1 (ft "GEN" 1 3 (j 0)) 37 (refused 16 0 (part FaultBytes 0 20)) ([])
+    -- 16 before 17
+    ∷ call net1 (ft "GEN" 0 1 (ohms 1366 0)) 37 (refused 16 0 (part FaultBytes 0 20)) ([])
     -- 19: a short buffer
     ∷ call net1 (ft "GEN" 0 0 (j 0)) 36 (refused 19 0 (part FaultBytes 0 0)) (at 0 (pos 7 ∷ pos 7 ∷ pos 7 ∷ pos 7 ∷ pos 7 ∷ pos 7 ∷ pos 7 ∷ pos 7 ∷ pos 7 ∷ pos 7 ∷ pos 7 ∷ pos 7 ∷ pos 7 ∷ pos 7 ∷ pos 7 ∷ pos 7 ∷ pos 7 ∷ pos 7 ∷ pos 7 ∷ pos 7 ∷ pos 7 ∷ pos 7 ∷ pos 7 ∷ pos 7 ∷ pos 7 ∷ pos 7 ∷ pos 7 ∷ pos 7 ∷ pos 7 ∷ pos 7 ∷ pos 7 ∷ pos 7 ∷ pos 7 ∷ pos 7 ∷ pos 7 ∷ pos 7 ∷ []) ∷ [])
     ∷ []

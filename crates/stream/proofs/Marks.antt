@@ -3,7 +3,8 @@ use mathlib.Core.Path.{_≡_, refl, ap}
 use Prim.Native.Nat.{ℕ, zero, suc, _<_}
 use lib.IntN.{pos}
 use lib.ListN.{length, getD}
-use Rattle.lemmas.proofs.Table.{tab, tab-at}
+use Rattle.lemmas.specs.Table.{tab}
+use Rattle.lemmas.proofs.Table.{tab-at}
 use Rattle.stream.specs.Case.{marks, markAt}
 
 tab-length : {X : Type 0} (f : ℕ → X) (i k : ℕ) → length (tab f i k) ≡ k

@@ -2,7 +2,7 @@
 use mathlib.Core.List.{List}
 use Prim.Native.Nat.{ℕ, _+_, _*_}
 use lib.IntN.{ℤ, pos}
-use Rattle.lemmas.proofs.Table.{tab}
+use Rattle.lemmas.specs.Table.{tab}
 use Rattle.paper.specs.Bytes.{u16At}
 use Rattle.stream.specs.declared.case.Case.{Case}
 
