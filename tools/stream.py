@@ -35,6 +35,8 @@ cases = [
     # a short buffer, and none
     (THREE, SOUND, FULL - 1),
     (THREE, SOUND, 0),
+    # the longest part that is shown
+    (THREE, SOUND.ljust(64, b'\xff'), 6),
     # the most of each: room, network and fault
     (THREE.ljust(16400, b'\0'), SOUND.ljust(64, b'\0'), 6),
     (head(230, 1000, 1) + GEN, fault('GEN', 1, 0), 6400),
@@ -50,8 +52,11 @@ def answered(net, flt, room):
     written = a['numbers'] or []
     buffer = written + [1000003 * (i + 1) for i in range(len(written), room)]
     whose, start, size = a['part']
-    first = struct.pack('<3IQ', a['number'], a['place'], a['n'], a['amps'])
-    return first + struct.pack('<4I', {'network': 1, 'fault': 2}[whose], start, size, room) + struct.pack('<%dq' % room, *buffer)
+    code, lent = {'network': (1, net), 'fault': (2, flt)}[whose]
+    first = struct.pack('<3IQ3I', a['number'], a['place'], a['n'], a['amps'], code, start, size)
+    shown = lent[start:start + size]
+    assert len(shown) == size
+    return first + shown + struct.pack('<I%dq' % room, room, *buffer)
 
 
 if len(sys.argv) > 1:

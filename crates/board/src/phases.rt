@@ -6,11 +6,11 @@ ghost use Rattle.turn.specs.Bounds.{Within};
 ghost use Rattle.paper.specs.Bounds.{Plane, EachSeq, mostW};
 ghost use Rattle.paper.specs.Fault.{seq};
 ghost use Rattle.paper.specs.Phase.{four, shows, phases};
-use number::sum::add;
-use number::sum::sixth;
-use number::sum::sub;
-use number::turns::turn;
 use paper::Seq;
+use phasor::sum::add;
+use phasor::sum::sixth;
+use phasor::sum::sub;
+use phasor::turns::turn;
 use turn::Num;
 
 // What is shown from the odd phase on.

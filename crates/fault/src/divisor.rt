@@ -2,9 +2,9 @@
 ghost use mathlib.Core.Path.{_≡_};
 ghost use Rattle.paper.specs.Bounds.{AtMost};
 ghost use Rattle.paper.specs.Fault.{numOf, G, Δ, shortOf};
-use number::product::mul;
-use number::sum::add;
 use paper::Ohms;
+use phasor::product::mul;
+use phasor::sum::add;
 use turn::Num;
 
 // R + jX.

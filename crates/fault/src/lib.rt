@@ -9,13 +9,13 @@ ghost use Rattle.fault.specs.Short.{shortedOf};
 use crate::divisor::divisor;
 use crate::divisor::earthed;
 use crate::divisor::num_of;
-use number::product::mul;
-use number::product::square;
-use number::sum::add;
-use number::sum::conj;
-use number::sum::neg;
 use paper::Ohms;
 use paper::Seq;
+use phasor::product::mul;
+use phasor::product::square;
+use phasor::sum::add;
+use phasor::sum::conj;
+use phasor::sum::neg;
 use turn::Num;
 
 // D, and I1, I2 and I0 over it.

@@ -7,11 +7,11 @@ ghost use Rattle.paper.specs.Fault.{numOf};
 ghost use Rattle.paper.specs.Phase.{voltageOf};
 use crate::divisor::num_of;
 use crate::seq;
-use number::product::mul;
-use number::sum::neg;
-use number::sum::sub;
 use paper::Ohms;
 use paper::Seq;
+use phasor::product::mul;
+use phasor::sum::neg;
+use phasor::sum::sub;
 use turn::Num;
 
 // An impedance times a sequence current.

@@ -1,4 +1,4 @@
--- What `number` asks at each step, in the order in which the table is computed: of add, sub, conj and sixth each operand (Addable), of mul both (Factors), of neg,
+-- What `phasor` asks at each step, in the order in which the table is computed: of add, sub, conj and sixth each operand (Addable), of mul both (Factors), of neg,
 -- turn and square theirs. Assumes nothing.
 use mathlib.Core.Path.{_≡_, sym, subst}
 use Prim.Native.Nat.{ℕ}
@@ -8,7 +8,7 @@ use Rattle.lemmas.specs.Small.{Small}
 use Rattle.turn.specs.declared.Num.{Num}
 use Rattle.turn.specs.Number.{wholeN, oneN, _+N_, _-N_, _*N_, turnN, conjN}
 use Rattle.turn.specs.Bounds.{Within}
-use Rattle.number.specs.Bounds.{Addable, Negatable, Squarable, Factors, Turnable}
+use Rattle.phasor.specs.Bounds.{Addable, Negatable, Squarable, Factors, Turnable}
 use Rattle.turn.proofs.Within.{within-weak, within-add, within-sub, within-turn}
 use Rattle.paper.specs.declared.Ohms.{Ohms}
 use Rattle.paper.specs.declared.Seq.{Seq}

@@ -11,7 +11,7 @@ use Rattle.lemmas.proofs.Distance.{small-neg}
 use Rattle.turn.specs.declared.Num.{Num}
 use Rattle.turn.specs.Number.{wholeN, complexN, _+N_, negN, _-N_, _*N_, turnN, conjN}
 use Rattle.turn.specs.Bounds.{Within}
-use Rattle.number.specs.Bounds.{Addable, Negatable, Squarable, Factors, Turnable}
+use Rattle.phasor.specs.Bounds.{Addable, Negatable, Squarable, Factors, Turnable}
 use Rattle.turn.proofs.Conj.{complex-conj}
 use Rattle.turn.proofs.Within.{within-weak, within-add, within-neg, within-complex, within-turn-complex, within-complex-mul}
 use Rattle.paper.specs.declared.Ohms.{Ohms}

@@ -30,7 +30,7 @@ pub record UpSmall (up : Node) : Type 0 where
   pub up0 : AtMost 4095 (up .z0)
   pub up-turn : up .turn ≤ 2805
 
--- ---- record r after its feeder: what the reader computes. That it is the paper's is a theorem (proofs/, `node-next`)
+-- ---- record r after its feeder: what the reader computes. That it is the paper's is a theorem (`records`, `node-next`)
 -- with a zero sequence
 abbrev pub started : Node → Ohms → ℕ → Node
 started n z s = record { z1 = n .z1; z2 = n .z2; z0 = z; feeder = n .feeder; start = s; turn = n .turn }

@@ -47,7 +47,7 @@ module _ (q : Asked) where
   unfoldable pub amps : ℕ
   amps = greatest ampsOver ampsUnder
 
--- |I|²·D in closed form: |1|², |3|², |t⁸ - t⁴|² and |3 Z2|² (and 0 for a number that is no kind). That it is saidSquare over D is a theorem (proofs/, `Amps`)
+-- |I|²·D in closed form: |1|², |3|², |t⁸ - t⁴|² and |3 Z2|² (and 0 for a number that is no kind). That it is saidSquare over D is a theorem (`amps`, `Exact`)
 unfoldable pub factor : Ohms → ℕ → ℕ
 factor z2 kind = getD (1 ∷ 9 ∷ 3 ∷ 9 * (z2 .r * z2 .r + z2 .x * z2 .x) ∷ []) kind 0
 

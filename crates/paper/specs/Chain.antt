@@ -127,7 +127,7 @@ unfoldable pub shared2 : Boards → ℕ → ℕ → Ohms
 shared2 bs j k = sumΩ (term2 bs) (common (chain bs j) (chain bs k))
 
 -- "For zero sequence it sums only those from the starting record on, with their zero-sequence terms, and is zero unless both boards have the same starting record."
--- (Zero chains of other starting records have no record in common: proofs/, `shared-apart`.)
+-- (Zero chains of other starting records have no record in common: a theorem of `follows`, `shared-apart`.)
 unfoldable pub shared0 : Boards → ℕ → ℕ → Ohms
 shared0 bs j k = sumΩ (term0 bs) (common (zeroChain bs j) (zeroChain bs k))
 

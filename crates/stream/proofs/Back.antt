@@ -1,6 +1,6 @@
--- What the bytes of an answer tell: all elements. Assumes nothing.
+-- What the bytes of an answer tell: the bytes that it shows, and all elements. Assumes nothing.
 use mathlib.Core.Path.{_≡_, refl, sym, ap, _∙_}
-use mathlib.Core.List.{List, [], _∷_, _++_}
+use mathlib.Core.List.{List, [], _∷_, _++_, append-assoc}
 use Prim.Native.Nat.{ℕ}
 use native.Mathlib.Omega.{arith}
 use lib.IntN.{ℤ}
@@ -11,7 +11,8 @@ use mir.Val.{SFits}
 use Rattle.decimal.specs.Little.{little, wordOf}
 use Rattle.decimal.proofs.Stored.{little-length}
 use Rattle.decimal.proofs.Back.{same-number, word-fits, same-word}
-use Rattle.stream.specs.Layout.{elementsOf}
+use Rattle.paper.specs.declared.Answer.{Answer}
+use Rattle.stream.specs.Layout.{partOf, foundOf, headOf, elementsOf, bytesOf}
 use Rattle.stream.proofs.Pieces.{elements-length}
 
 abbrev pub AllFit : List ℤ → Type 0
@@ -35,3 +36,13 @@ same-elements (y ∷ ys) (z ∷ zs) f g e =
     let first : y ≡ z = same-word y z (f .0) (g .0) (same-number 8 (wordOf y) (wordOf z) (word-fits y (f .0)) (word-fits z (g .0)) (front (little 8 (wordOf y)) (little 8 (wordOf z)) (elementsOf ys) (elementsOf zs) l e)) in
     let rest : ys ≡ zs = same-elements ys zs (f .1) (g .1) (behind (little 8 (wordOf y)) (little 8 (wordOf z)) (elementsOf ys) (elementsOf zs) l e) in
     λ i. first i ∷ rest i
+
+-- of the same answer, which says how many bytes it shows
+module _ (a : Answer) (shown shown′ : List ℕ) (ys zs : List ℤ) where
+  pub same-answer : length shown ≡ a .part .len → length shown′ ≡ a .part .len → AllFit ys → AllFit zs → bytesOf a shown ys ≡ bytesOf a shown′ zs → (shown ≡ shown′) × (ys ≡ zs)
+  unfolding bytesOf headOf foundOf partOf little
+  same-answer l m f g e =
+      let k : length shown ≡ length shown′ = l ∙ sym m in
+      let n : length (little 4 (length ys)) ≡ length (little 4 (length zs)) = little-length 4 (length ys) ∙ sym (little-length 4 (length zs)) in
+      let rest : shown ++ (little 4 (length ys) ++ elementsOf ys) ≡ shown′ ++ (little 4 (length zs) ++ elementsOf zs) = sym (append-assoc shown (little 4 (length ys)) (elementsOf ys)) ∙ ap (drop 32) e ∙ append-assoc shown′ (little 4 (length zs)) (elementsOf zs) in
+      (front shown shown′ _ _ k rest, same-elements ys zs f g (behind (little 4 (length ys)) (little 4 (length zs)) _ _ n (behind shown shown′ _ _ k rest)))

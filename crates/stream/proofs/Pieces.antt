@@ -26,13 +26,13 @@ pub found-pieces : (a : Answer) → foundOf a ≡ little 4 (a .number) ++ (littl
 unfolding foundOf
 found-pieces a = refl
 
-pub head-pieces : (a : Answer) (room : ℕ) → headOf a room ≡ foundOf a ++ (partOf (a .part) ++ little 4 room)
+pub head-pieces : (a : Answer) (shown : List ℕ) (room : ℕ) → headOf a shown room ≡ foundOf a ++ (partOf (a .part) ++ (shown ++ little 4 room))
 unfolding headOf
-head-pieces a room = refl
+head-pieces a shown room = refl
 
-pub answer-pieces : (a : Answer) (zs : List ℤ) → bytesOf a zs ≡ headOf a (length zs) ++ elementsOf zs
+pub answer-pieces : (a : Answer) (shown : List ℕ) (zs : List ℤ) → bytesOf a shown zs ≡ headOf a shown (length zs) ++ elementsOf zs
 unfolding bytesOf
-answer-pieces a zs = refl
+answer-pieces a shown zs = refl
 
 -- ---- the elements, from the first that is left on
 module _ (zs : List ℤ) where
@@ -54,14 +54,10 @@ unfolding elementsOf
 elements-length [] = refl
 elements-length (z ∷ zs) = length-append (little 8 (wordOf z)) (elementsOf zs) ∙ omega (arith, little-length 8 (wordOf z), elements-length zs)
 
-part-length : (p : Part) → length (partOf p) ≡ 12
-unfolding partOf little
-part-length p = refl
-
-head-length : (a : Answer) (room : ℕ) → length (headOf a room) ≡ 36
+head-length : (a : Answer) (shown : List ℕ) (room : ℕ) → length (headOf a shown room) ≡ 36 + length shown
 unfolding headOf foundOf partOf little
-head-length a room = refl
+head-length a shown room = omega (arith, length-append shown (little 4 room), little-length 4 room)
 
-pub bytes-length : (a : Answer) (zs : List ℤ) → length (bytesOf a zs) ≡ 36 + 8 * length zs
+pub bytes-length : (a : Answer) (shown : List ℕ) (zs : List ℤ) → length (bytesOf a shown zs) ≡ 36 + length shown + 8 * length zs
 unfolding bytesOf
-bytes-length a zs = length-append (headOf a (length zs)) (elementsOf zs) ∙ omega (arith, head-length a (length zs), elements-length zs)
+bytes-length a shown zs = length-append (headOf a shown (length zs)) (elementsOf zs) ∙ omega (arith, head-length a shown (length zs), elements-length zs)

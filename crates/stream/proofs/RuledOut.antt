@@ -29,7 +29,11 @@ abbrev case : ℕ → ℕ → ℕ → Case
 case r n f = record { room = r; net = n; flt = f }
 
 abbrev answer : Answer
-answer = record { amps = 4; part = part FaultBytes 5 6; place = 2; n = 3; number = 1 }
+answer = record { amps = 4; part = part FaultBytes 5 4; place = 2; n = 3; number = 1 }
+
+-- the four bytes that it shows
+abbrev shown : RefT (List ℕ)
+shown = lent (fours (9 ∷ []))
 
 abbrev numbers : ℕ → ℕ → RefT (List ℤ)
 numbers m n = lent (pos m ∷ pos n ∷ [])
@@ -49,11 +53,13 @@ module _ (κ : Lft) where
   unfolding marks
   mark-not = by (λ z. wholes (z .1 .0 .now)) (λ a. wholes (marks (length (a .0 .now)))) (λ a z s i. wholes (s i)) (omega arith, (omega arith, tt)) tt
 
-module _ (κ κ' : Lft) where
-  pub put-answer-not : RuledOut (put-answer.Pre (κ, (κ', tt))) (leaves (put-answer.Post (κ, (κ', tt)))) (
-      (dots 52, (0, (answer, (numbers 7 8, tt)))) ↛ (52, fours (2 ∷ 2 ∷ 3 ∷ 4 ∷ 0 ∷ 2 ∷ 5 ∷ 6 ∷ 2 ∷ 7 ∷ 0 ∷ 8 ∷ 0 ∷ []))  -- place_for_number
-      ∷ (dots 52, (0, (answer, (numbers 7 8, tt)))) ↛ (52, fours (1 ∷ 2 ∷ 3 ∷ 4 ∷ 0 ∷ 1 ∷ 5 ∷ 6 ∷ 2 ∷ 7 ∷ 0 ∷ 8 ∷ 0 ∷ []))  -- always_the_network
-      ∷ (dots 52, (0, (answer, (numbers 7 8, tt)))) ↛ (44, fours (1 ∷ 2 ∷ 3 ∷ 4 ∷ 0 ∷ 2 ∷ 5 ∷ 6 ∷ 2 ∷ 8 ∷ 0 ∷ []) ++ replicate 8 46)  -- elements_on_top
+module _ (κ κ' κ'' : Lft) where
+  pub put-answer-not : RuledOut (put-answer.Pre (κ, (κ', (κ'', tt)))) (leaves (put-answer.Post (κ, (κ', (κ'', tt))))) (
+      (dots 56, (0, (answer, (shown, (numbers 7 8, tt))))) ↛ (56, fours (2 ∷ 2 ∷ 3 ∷ 4 ∷ 0 ∷ 2 ∷ 5 ∷ 4 ∷ 9 ∷ 2 ∷ 7 ∷ 0 ∷ 8 ∷ 0 ∷ []))  -- place_for_number
+      ∷ (dots 56, (0, (answer, (shown, (numbers 7 8, tt))))) ↛ (56, fours (1 ∷ 2 ∷ 3 ∷ 4 ∷ 0 ∷ 1 ∷ 5 ∷ 4 ∷ 9 ∷ 2 ∷ 7 ∷ 0 ∷ 8 ∷ 0 ∷ []))  -- always_the_network
+      ∷ (dots 56, (0, (answer, (shown, (numbers 7 8, tt))))) ↛ (52, fours (1 ∷ 2 ∷ 3 ∷ 4 ∷ 0 ∷ 2 ∷ 5 ∷ 4 ∷ 2 ∷ 7 ∷ 0 ∷ 8 ∷ 0 ∷ []) ++ replicate 4 46)  -- part_left_out
+      ∷ (dots 56, (0, (answer, (shown, (numbers 7 8, tt))))) ↛ (56, fours (1 ∷ 2 ∷ 3 ∷ 4 ∷ 0 ∷ 2 ∷ 5 ∷ 4 ∷ 2 ∷ 7 ∷ 0 ∷ 8 ∷ 0 ∷ 9 ∷ []))  -- part_behind_the_elements
+      ∷ (dots 56, (0, (answer, (shown, (numbers 7 8, tt))))) ↛ (48, fours (1 ∷ 2 ∷ 3 ∷ 4 ∷ 0 ∷ 2 ∷ 5 ∷ 4 ∷ 9 ∷ 2 ∷ 8 ∷ 0 ∷ []) ++ replicate 8 46)  -- elements_on_top
       ∷ [])
   unfolding bytesOf headOf foundOf partOf whoseOf elementsOf little wordOf
-  put-answer-not = by-room (λ b. bytesOf (b .0) (b .1 .0 .now)) tt tt
+  put-answer-not = by-room (λ b. bytesOf (b .0) (b .1 .0 .now) (b .1 .1 .0 .now)) tt tt

@@ -20,13 +20,14 @@ partOf p = little 4 (whoseOf (p .whose)) ++ (little 4 (p .start) ++ little 4 (p 
 unfoldable pub foundOf : Answer → List ℕ
 foundOf a = little 4 (a .number) ++ (little 4 (a .place) ++ (little 4 (a .n) ++ little 8 (a .amps)))
 
--- the same, the part shown, and how many elements of the buffer follow
-unfoldable pub headOf : Answer → ℕ → List ℕ
-headOf a room = foundOf a ++ (partOf (a .part) ++ little 4 room)
+-- the same, the part that is shown, its bytes, and how many elements of the buffer follow
+unfoldable pub headOf : Answer → List ℕ → ℕ → List ℕ
+headOf a shown room = foundOf a ++ (partOf (a .part) ++ (shown ++ little 4 room))
 
 unfoldable pub elementsOf : List ℤ → List ℕ
 elementsOf [] = []
 elementsOf (z ∷ zs) = little 8 (wordOf z) ++ elementsOf zs
 
-unfoldable pub bytesOf : Answer → List ℤ → List ℕ
-bytesOf a zs = headOf a (length zs) ++ elementsOf zs
+-- an answer, the bytes that it shows, and every element of the buffer
+unfoldable pub bytesOf : Answer → List ℕ → List ℤ → List ℕ
+bytesOf a shown zs = headOf a shown (length zs) ++ elementsOf zs

@@ -8,6 +8,7 @@ ghost use Rattle.stream.specs.Layout.{whoseOf, partOf, foundOf, headOf, 
 use decimal::little::put_eight;
 use decimal::little::put_four;
 use decimal::little::word;
+use decimal::put_bytes;
 use paper::Answer;
 use paper::Lent;
 use paper::Part;
@@ -43,14 +44,15 @@ fn put_found(out: &mut [u8], at: usize, given: Answer) -> usize
     put_eight(out, c, given.amps)
 }
 
-fn put_head(out: &mut [u8], at: usize, given: Answer, room: usize) -> usize
-    requires { ⌜ Room at (headOf given room) (now out) ⌝ }
-    ensures { λ r. ⌜ Wrote at (headOf given room) (now (out .entry)) (now (out .exit)) r ⌝ }
+fn put_head(out: &mut [u8], at: usize, given: Answer, shown: &[u8], room: usize) -> usize
+    requires { ⌜ Room at (headOf given (now shown) room) (now out) ⌝ }
+    ensures { λ r. ⌜ Wrote at (headOf given (now (shown .entry)) room) (now (out .entry)) (now (out .exit)) r ⌝ }
 {
     let part = given.part;
     let a = put_found(out, at, given);
     let b = put_part(out, a, part);
-    put_four(out, b, room as u64)
+    let c = put_bytes(out, b, shown);
+    put_four(out, c, room as u64)
 }
 
 fn put_elements(out: &mut [u8], at: usize, zs: &[i64]) -> usize
@@ -67,11 +69,11 @@ fn put_elements(out: &mut [u8], at: usize, zs: &[i64]) -> usize
     end
 }
 
-// An answer, and every element of the buffer behind it.
-pub fn put_answer(out: &mut [u8], at: usize, given: Answer, zs: &[i64]) -> usize
-    requires { ⌜ Room at (bytesOf given (now zs)) (now out) ⌝ }
-    ensures { λ r. ⌜ Wrote at (bytesOf given (now (zs .entry))) (now (out .entry)) (now (out .exit)) r ⌝ }
+// An answer, the bytes that it shows, and every element of the buffer behind them.
+pub fn put_answer(out: &mut [u8], at: usize, given: Answer, shown: &[u8], zs: &[i64]) -> usize
+    requires { ⌜ Room at (bytesOf given (now shown) (now zs)) (now out) ⌝ }
+    ensures { λ r. ⌜ Wrote at (bytesOf given (now (shown .entry)) (now (zs .entry))) (now (out .entry)) (now (out .exit)) r ⌝ }
 {
-    let a = put_head(out, at, given, zs.len());
+    let a = put_head(out, at, given, shown, zs.len());
     put_elements(out, a, zs)
 }

@@ -1,6 +1,6 @@
 // The number: x0 + x1 t + x2 t² + x3 t³ with whole coordinates, t a turn of 30 degrees forward.
 // Every impedance, current and voltage above this crate is one; specs/ says what each operation means. The operations themselves
-// are in `number`, so that a crate that only names numbers stands on none of them.
+// are in `phasor`, so that a crate that only names numbers stands on none of them.
 ghost use mathlib.Core.Path.{_≡_};
 ghost use Rattle.turn.specs.Number.{wholeN, complexN, oneN, jN, aN, a2N};
 

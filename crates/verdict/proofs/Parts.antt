@@ -3,13 +3,13 @@ use mathlib.Core.List.{List}
 use mathlib.Core.Path.{_≡_, refl, sym, _∙_, ap, subst}
 use Prim.Native.Nat.{ℕ, _+_, _-_, _^_, _≤_, _<_}
 use native.Mathlib.Omega.{arith}
-use lib.ListN.{length, take, drop}
+use lib.ListN.{length, take, drop, length-take, length-drop}
 use denote.Ref.{RefT}
 use Rattle.paper.specs.declared.Lent.{Lent}
 use Rattle.paper.specs.declared.Lent.the-variants.{NetworkBytes, FaultBytes}
 use Rattle.paper.specs.declared.Part.{Part}
 use Rattle.paper.specs.Bytes.{cut}
-use Rattle.verdict.specs.Shown.{lent, Within, IsPart}
+use Rattle.verdict.specs.Shown.{lent, shownBytes, Within, IsPart}
 
 -- `&s[a..a + n]`, under some ghost name
 abbrev slice : RefT (List ℕ) → ℕ → ℕ → ℕ → RefT (List ℕ)
@@ -39,6 +39,19 @@ module _ (p : Part) (net flt : RefT (List ℕ)) (w : Lent) (h : p .whose ≡ w) 
 pub lent-bytes : (w : Lent) (net flt : RefT (List ℕ)) {a n : ℕ} {r : RefT (List ℕ)} → IsPart (lent w net flt) a n r → r .now ≡ cut (lent w (net .now) (flt .now)) a n
 lent-bytes NetworkBytes net flt h = h .bytes
 lent-bytes FaultBytes net flt h = h .bytes
+
+module _ (p : Part) (net flt : List ℕ) where
+  -- as many as the part says
+  pub shown-length : Within p net flt → length (shownBytes net flt p) ≡ p .len
+  shown-length fits = simp (length-take, length-drop) (omega arith)
+
+  -- and no more than the longer of the two slices has
+  pub shown-most : {m : ℕ} → length net ≤ m → length flt ≤ m → length (shownBytes net flt p) ≤ m
+  shown-most {m} n f = go (p .whose)
+    where
+      go : (w : Lent) → length (cut (lent w net flt) (p .start) (p .len)) ≤ m
+      go NetworkBytes = simp (length-take, length-drop) (omega arith)
+      go FaultBytes = simp (length-take, length-drop) (omega arith)
 
 -- two results that the contract allows are the same bytes at the same place
 pub same-part : {s : RefT (List ℕ)} {a n : ℕ} {q r : RefT (List ℕ)} → IsPart s a n q → IsPart s a n r → (q .now ≡ r .now) × (q .ptr ≡ r .ptr)

@@ -14,6 +14,10 @@ abbrev pub lent : {A : Type 0} → Lent → A → A → A
 lent NetworkBytes net flt = net
 lent FaultBytes net flt = flt
 
+-- the bytes that a part names
+abbrev pub shownBytes : List ℕ → List ℕ → Part → List ℕ
+shownBytes net flt p = cut (lent (p .whose) net flt) (p .start) (p .len)
+
 -- the part lies within what it is a part of
 abbrev pub Within : Part → List ℕ → List ℕ → Type 0
 Within p net flt = p .start + p .len ≤ length (lent (p .whose) net flt)

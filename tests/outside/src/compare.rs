@@ -42,6 +42,10 @@ pub fn same(due: &Answer, got: &Answer) -> Result<(), String> {
     if due.verdict != got.verdict {
         return Err(format!("due {:?}\n got {:?}", due.verdict, got.verdict));
     }
+    if due.shown != got.shown {
+        let (d, g) = (hex(&due.shown), hex(&got.shown));
+        return Err(format!("bytes shown: due {d}\n got {g}, {:?}", due.verdict));
+    }
     if due.buffer.len() != got.buffer.len() {
         let (d, g) = (due.buffer.len(), got.buffer.len());
         return Err(format!("count: due {d}, got {g}"));
@@ -85,11 +89,11 @@ pub fn hex(bytes: &[u8]) -> String {
     bytes.iter().map(|b| format!("{b:02x}")).collect()
 }
 
-/// The report of a mismatch, with what is needed to see it again.
-pub fn report(index: u64, case: &Case, what: &str) -> String {
+/// Where two differ, with what is needed to see it again.
+pub fn report(who: &str, index: u64, case: &Case, what: &str) -> String {
     let (net, fault) = (hex(&case.net), hex(&case.fault));
     format!(
-        "MISMATCH at case {index} ({})\n {what}\n outside replay {net} {fault} {}",
+        "DIFFERENCE between {who} at case {index} ({})\n {what}\n outside replay {net} {fault} {}",
         case.note, case.room
     )
 }

@@ -46,7 +46,7 @@ fn rec(name: &str, feeder: &str, kind: u8, clock: u8, z: [u16; 8]) -> Rec {
 }
 
 /// GEN, BOOTH-WEST-1 and HALL of the paper.
-fn paper_records() -> Vec<Rec> {
+pub fn paper_records() -> Vec<Rec> {
     vec![
         rec("GEN", "", 0, 0, [0, 20, 0, 20, 0, 5, 0, 5]),
         rec("BOOTH-WEST-1", "GEN", 2, 0, [30, 10, 30, 10, 90, 30, 0, 0]),

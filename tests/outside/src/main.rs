@@ -28,8 +28,9 @@ outside answer [BUDGET] < stream > answers
 outside compare SEED COUNT ANSWERS|-
 outside run SEED COUNT -- COMMAND ARGS..
 outside cuts SEED COUNT -- COMMAND ARGS..
-outside faults SEED COUNT
 outside figures
+outside faults
+outside hunt SEED COUNT
 outside edges SEED COUNT
 outside replay HEXNET HEXFAULT ROOM [-- COMMAND ARGS..]   (- for no bytes)";
 
@@ -64,8 +65,9 @@ fn command(args: &[String]) -> Outcome {
         ["compare", seed, count, from] => compare_file(number(seed)?, number(count)?, from),
         ["run", seed, count, "--", _, ..] => run(number(seed)?, number(count)?, &args[4..]),
         ["cuts", seed, count, "--", _, ..] => cuts(number(seed)?, number(count)?, &args[4..]),
-        ["faults", seed, count] => all(faults::all(number(seed)?, number(count)?)),
-        ["figures"] => all(figures::all()),
+        ["figures"] => figures(),
+        ["faults"] => faults::all(),
+        ["hunt", seed, count] => faults::hunt(number(seed)?, number(count)?),
         ["edges", seed, count] => edges(number(seed)?, number(count)?),
         ["replay", net, fault, room] => replay(net, fault, room, &[]),
         ["replay", net, fault, room, "--", _, ..] => replay(net, fault, room, &args[5..]),
@@ -73,11 +75,11 @@ fn command(args: &[String]) -> Outcome {
     }
 }
 
-fn all(agree: bool) -> Outcome {
-    if agree {
+fn figures() -> Outcome {
+    if figures::all() {
         return Ok(());
     }
-    Err("not all agree".into())
+    Err("figures: the outside implementation itself is at fault".into())
 }
 
 fn told(e: io::Error) -> String {
@@ -141,8 +143,9 @@ fn edges(seed: u64, count: u64) -> Outcome {
     for index in 0..count {
         let case = make::case(seed, index);
         let due = stream::answer(&paper::Paper::AS_WRITTEN, &case);
+        let who = "the judge and the laws";
         compare::check(index, &case, &due, &mut tally)
-            .map_err(|what| compare::report(index, &case, &what))?;
+            .map_err(|what| compare::report(who, index, &case, &what))?;
     }
     tally.print();
     tally.print_edges();
@@ -168,6 +171,7 @@ fn replay(net: &str, fault: &str, room: &str, command: &[String]) -> Outcome {
     };
     let due = stream::answer(&paper::Paper::AS_WRITTEN, &case);
     println!("{:?}", due.verdict);
+    println!("shown {}", compare::hex(&due.shown));
     print!("{}", figures::text(&case, &due));
     if due.verdict.number == 0 {
         laws::check(&case.net, &case.fault, &due.buffer, due.verdict.amps)?;

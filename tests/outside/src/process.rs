@@ -11,39 +11,73 @@ use std::thread::JoinHandle;
 /// Cases that one process is given at most.
 const CHUNK: u64 = 4_000;
 
-/// Compares the answers on `from` with cases `first` to `end` - 1; the number answered, and the
-/// mark that ended them.
+/// What does not agree, and at which case if it is one.
+pub struct Difference {
+    at: Option<(u64, Case)>,
+    pub what: String,
+}
+
+impl From<Difference> for String {
+    fn from(d: Difference) -> String {
+        let who = "the program and the outside implementation";
+        match d.at {
+            Some((index, case)) => report(who, index, &case, &d.what),
+            None => format!("DIFFERENCE between {who}: {}", d.what),
+        }
+    }
+}
+
+impl From<std::io::Error> for Difference {
+    fn from(e: std::io::Error) -> Difference {
+        Difference::apart(e.to_string())
+    }
+}
+
+impl Difference {
+    fn apart(what: String) -> Difference {
+        Difference { at: None, what }
+    }
+}
+
+/// How many cases were answered, and the mark that ended the answers.
+type Ended = (u64, [u8; 4]);
+
+/// Compares the answers on `from` with those due to the cases.
 pub fn compare(
     from: &mut impl Read,
     cases: impl Iterator<Item = (u64, Case)>,
     tally: &mut Tally,
-) -> Result<(u64, [u8; 4]), String> {
+) -> Result<Ended, Difference> {
     let mut answered = 0;
     for (index, case) in cases {
-        let told = |what: String| report(index, &case, &what);
-        let reply = read_reply(from).map_err(|e| told(e.to_string()))?;
-        match reply {
-            Reply::Answer(got) => check(index, &case, &got, tally).map_err(told)?,
+        let result = match read_reply(from)? {
+            Reply::Answer(got) => check(index, &case, &got, tally),
             Reply::Mark(mark) => return ended(from, answered, mark),
-            Reply::Broken(what) => return Err(told(what)),
+            Reply::Broken(what) => Err(what),
+        };
+        if let Err(what) = result {
+            let at = Some((index, case));
+            return Err(Difference { at, what });
         }
         answered += 1;
     }
-    match read_reply(from).map_err(|e| e.to_string())? {
-        Reply::Mark(mark) => ended(from, answered, mark),
-        Reply::Answer(_) => Err("an answer too many".into()),
-        Reply::Broken(what) => Err(format!("after the last answer: {what}")),
-    }
+    let what = match read_reply(from)? {
+        Reply::Mark(mark) => return ended(from, answered, mark),
+        Reply::Answer(_) => "an answer too many".into(),
+        Reply::Broken(what) => format!("after the last answer: {what}"),
+    };
+    Err(Difference::apart(what))
 }
 
 /// Nothing may follow the mark.
-fn ended(from: &mut impl Read, n: u64, mark: [u8; 4]) -> Result<(u64, [u8; 4]), String> {
+fn ended(from: &mut impl Read, n: u64, mark: [u8; 4]) -> Result<Ended, Difference> {
     let mut rest = Vec::new();
-    from.read_to_end(&mut rest).map_err(|e| e.to_string())?;
+    from.read_to_end(&mut rest)?;
     if rest.is_empty() {
         return Ok((n, mark));
     }
-    Err(format!("{} bytes after the closing mark", rest.len()))
+    let what = format!("{} bytes after the closing mark", rest.len());
+    Err(Difference::apart(what))
 }
 
 struct Batch {
@@ -93,15 +127,19 @@ pub fn stream_of(seed: u64, first: u64, end: u64) -> Vec<u8> {
 fn chunk(seed: u64, first: u64, end: u64, cmd: &[String], t: &mut Tally) -> Result<u64, String> {
     let mut batch = start(cmd, stream_of(seed, first, end))?;
     let cases = (first..end).map(|i| (i, make::case(seed, i)));
-    let result = compare(&mut batch.answers, cases, t);
-    if let Err(what) = result {
-        // The process may still be writing; it is ours, so it is ended by its own handle.
-        drop(batch.child.kill());
-        let status = stop(batch).err().unwrap_or_default();
-        return Err(format!("{status}\n{what}"));
-    }
+    let (answered, mark) = match compare(&mut batch.answers, cases, t) {
+        Ok(end) => end,
+        Err(difference) => {
+            // The process may still be writing; it is ours, so it is ended by its own handle.
+            drop(batch.child.kill());
+            let mut told = String::from(difference);
+            if let Err(status) = stop(batch) {
+                told += &format!("\n {status} (it is stopped at the first difference)");
+            }
+            return Err(told);
+        }
+    };
     stop(batch)?;
-    let (answered, mark) = result?;
     match &mark {
         b"END\n" if answered == end - first => Ok(answered),
         b"BUDG" if answered > 0 => Ok(answered),
@@ -135,7 +173,8 @@ pub fn one(case: Case, command: &[String], tally: &mut Tally) -> Result<(), Stri
     let mut batch = start(command, bytes)?;
     let result = compare(&mut batch.answers, std::iter::once((0, case)), tally);
     stop(batch)?;
-    result.map(|_| ())
+    result?;
+    Ok(())
 }
 
 /// Streams cut inside a case must give the whole cases before it and "CUT\n"; an empty one "END\n".

@@ -1,6 +1,10 @@
 //! Cases and answers as bytes: little endian, one after the other.
+//!
+//! An answer: number, place, N (four bytes each), amps (eight), whose bytes are shown, where they
+//! start, how many they are (four each), these bytes themselves, how many elements the buffer has
+//! (four), and the elements (eight each).
 
-use crate::judge::{judge, Verdict};
+use crate::judge::{judge, Verdict, NETWORK};
 use crate::make::{Case, MOST_FAULT, MOST_NET, MOST_ROOM};
 use crate::paper::Paper;
 use std::io::{self, ErrorKind, Read, Write};
@@ -8,6 +12,8 @@ use std::io::{self, ErrorKind, Read, Write};
 #[derive(Clone, PartialEq, Eq)]
 pub struct Answer {
     pub verdict: Verdict,
+    /// The bytes that the verdict's part names.
+    pub shown: Vec<u8>,
     pub buffer: Vec<i64>,
 }
 
@@ -20,7 +26,24 @@ pub fn filled(room: usize) -> Vec<i64> {
 pub fn answer(paper: &Paper, case: &Case) -> Answer {
     let mut buffer = filled(case.room);
     let verdict = judge(paper, &case.net, &case.fault, &mut buffer);
-    Answer { verdict, buffer }
+    Answer {
+        verdict,
+        shown: part(&verdict, case),
+        buffer,
+    }
+}
+
+fn part(v: &Verdict, case: &Case) -> Vec<u8> {
+    let whole = if v.whose == NETWORK {
+        &case.net
+    } else {
+        &case.fault
+    };
+    let (start, length) = (v.start as usize, v.length as usize);
+    let mut part: Vec<u8> = whole.iter().skip(start).take(length).copied().collect();
+    // A wrong reading may name bytes that are not there; its stream has to be as long as it says.
+    part.resize(length, 0);
+    part
 }
 
 pub fn write_case(out: &mut impl Write, case: &Case) -> io::Result<()> {
@@ -35,6 +58,10 @@ pub enum Input {
     Case(Case),
     End,
     Cut,
+}
+
+fn word(bytes: &[u8], at: usize) -> u32 {
+    u32::from_le_bytes(std::array::from_fn(|i| bytes[at + i]))
 }
 
 /// Reads as much as there is, up to the whole of `into`.
@@ -58,8 +85,7 @@ pub fn read_case(from: &mut impl Read) -> io::Result<Input> {
         12 => {}
         _ => return Ok(Input::Cut),
     }
-    let length = |i: usize| u32::from_le_bytes(std::array::from_fn(|b| head[4 * i + b])) as usize;
-    let (room, net, fault) = (length(0), length(1), length(2));
+    let [room, net, fault] = [0, 4, 8].map(|at| word(&head, at) as usize);
     if room > MOST_ROOM || net > MOST_NET || fault > MOST_FAULT {
         // Not said in the brief; a case that can't be held can't be answered.
         return Ok(Input::Cut);
@@ -80,14 +106,16 @@ pub fn read_case(from: &mut impl Read) -> io::Result<Input> {
 
 pub fn write_answer(out: &mut impl Write, a: &Answer) -> io::Result<()> {
     let v = &a.verdict;
-    let mut bytes = Vec::with_capacity(36 + 8 * a.buffer.len());
+    let mut bytes = Vec::with_capacity(36 + a.shown.len() + 8 * a.buffer.len());
     for x in [v.number, v.place, v.boards] {
         bytes.extend(x.to_le_bytes());
     }
     bytes.extend(v.amps.to_le_bytes());
-    for x in [v.whose, v.start, v.length, a.buffer.len() as u32] {
+    for x in [v.whose, v.start, v.length] {
         bytes.extend(x.to_le_bytes());
     }
+    bytes.extend(&a.shown);
+    bytes.extend((a.buffer.len() as u32).to_le_bytes());
     bytes.extend(a.buffer.iter().flat_map(|x| x.to_le_bytes()));
     out.write_all(&bytes)
 }
@@ -110,21 +138,31 @@ pub fn read_reply(from: &mut impl Read) -> io::Result<Reply> {
     if [b"END\n", b"BUDG", b"CUT\n"].contains(&&first) {
         return Ok(Reply::Mark(first));
     }
-    let mut head = [0; 32];
-    if fill(from, &mut head)? < 32 {
+    let mut head = [0; 28];
+    if fill(from, &mut head)? < 28 {
         return Ok(Reply::Broken("output ends inside an answer's head".into()));
     }
-    let word = |i: usize| u32::from_le_bytes(std::array::from_fn(|b| head[i + b]));
     let verdict = Verdict {
-        number: u32::from_le_bytes(first),
-        place: word(0),
-        boards: word(4),
-        amps: u64::from(word(8)) | u64::from(word(12)) << 32,
-        whose: word(16),
-        start: word(20),
-        length: word(24),
+        number: word(&first, 0),
+        place: word(&head, 0),
+        boards: word(&head, 4),
+        amps: u64::from(word(&head, 8)) | u64::from(word(&head, 12)) << 32,
+        whose: word(&head, 16),
+        start: word(&head, 20),
+        length: word(&head, 24),
     };
-    let count = word(28) as usize;
+    // No more bytes can be shown than were lent.
+    let length = verdict.length as usize;
+    if length > MOST_NET {
+        return Ok(Reply::Broken(format!("{length} bytes shown, {verdict:?}")));
+    }
+    let mut shown = vec![0; length];
+    let mut count = [0; 4];
+    if fill(from, &mut shown)? < length || fill(from, &mut count)? < 4 {
+        let what = format!("output ends inside the shown bytes, {verdict:?}");
+        return Ok(Reply::Broken(what));
+    }
+    let count = word(&count, 0) as usize;
     if count > MOST_ROOM {
         return Ok(Reply::Broken(format!("count {count}, {verdict:?}")));
     }
@@ -134,7 +172,11 @@ pub fn read_reply(from: &mut impl Read) -> io::Result<Reply> {
     }
     let number = |b: &[u8]| i64::from_le_bytes(std::array::from_fn(|i| b[i]));
     let buffer = bytes.chunks_exact(8).map(number).collect();
-    Ok(Reply::Answer(Answer { verdict, buffer }))
+    Ok(Reply::Answer(Answer {
+        verdict,
+        shown,
+        buffer,
+    }))
 }
 
 /// Acts as `batch`: answers what stands on `from`; `budget` cases at most.
@@ -147,4 +189,27 @@ pub fn serve(from: &mut impl Read, out: &mut impl Write, budget: u64) -> io::Res
         }
     }
     out.write_all(b"BUDG")
+}
+
+#[cfg(test)]
+mod tests {
+    use super::*;
+
+    /// Some answers show many bytes, some none; some have a buffer, some none.
+    #[test]
+    fn answers_are_read_as_written() {
+        for index in 0..400 {
+            let due = answer(&Paper::AS_WRITTEN, &crate::make::case(1, index));
+            let mut bytes = Vec::new();
+            write_answer(&mut bytes, &due).unwrap();
+            match read_reply(&mut &bytes[..]).unwrap() {
+                Reply::Answer(got) => assert!(got == due),
+                _ => panic!("case {index} is not read as an answer"),
+            }
+            for end in (0..bytes.len()).take(200) {
+                let cut = read_reply(&mut &bytes[..end]).unwrap();
+                assert!(matches!(cut, Reply::Broken(_)), "case {index} cut at {end}");
+            }
+        }
+    }
 }

@@ -8,6 +8,8 @@ use Rattle.solve.proofs.Promised.{written-length}
 use Rattle.stream.specs.Case.{marks}
 use Rattle.stream.proofs.Marks.{marks-length}
 use Rattle.stream.proofs.Pieces.{bytes-length}
+use Rattle.verdict.specs.Shown.{shownBytes}
+use Rattle.verdict.proofs.Parts.{shown-most}
 use borrow.Author.Needs.{needs}
 use Rattle.batch.proofs.reply.Statement.{statement}
 use Rattle.batch.proofs.reply.Tie as tie
@@ -21,7 +23,8 @@ on-page c =
     let net = s .args .net .now in
     let flt = s .args .flt .now in
     let n = length (s .args .buffer .now) in
-    omega (arith, c .before .before .before .answer .ensures .behind, bytes-length (verdict net flt n) (written net flt (marks n)), written-length net flt (marks n), marks-length n, c .before .before .before .answer .kept .0, s .pre .1)
+    let p = verdict net flt n .part in
+    omega (arith, c .before .before .before .answer .ensures .behind, bytes-length (verdict net flt n) (shownBytes net flt p) (written net flt (marks n)), shown-most p net flt {m = 16400} (s .pre .0) (omega arith), written-length net flt (marks n), marks-length n, c .before .before .before .answer .kept .0, s .pre .1 .1 .1)
 
 slice-reshare-prefix-write-all : tie.Need-slice-reshare-prefix-write-all
 slice-reshare-prefix-write-all c = on-page c

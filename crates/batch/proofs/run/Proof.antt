@@ -7,7 +7,7 @@ use Rattle.batch.proofs.run.Statement.{statement}
 use Rattle.batch.proofs.run.Tie as tie
 
 abbrev Inv-loop : tie.InvT-loop
-Inv-loop head₀ parts₀ buffer₀ out₀ done₀ head parts buffer out done = (12 ≡ length head) × (16464 ≡ length parts) × (6400 ≡ length buffer) × (51236 ≡ length out) × (done ≤ 1000000)
+Inv-loop head₀ parts₀ buffer₀ out₀ done₀ head parts buffer out done = (12 ≡ length head) × (16464 ≡ length parts) × (6400 ≡ length buffer) × (67636 ≡ length out) × (done ≤ 1000000)
 
 abbrev μ-loop : tie.MeasureT-loop
 μ-loop head₀ parts₀ buffer₀ out₀ done₀ head parts buffer out done = 1000000 - done

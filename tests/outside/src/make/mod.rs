@@ -9,6 +9,7 @@ mod sound;
 use self::model::Draft;
 use crate::rng::Rng;
 
+#[derive(Clone)]
 pub struct Case {
     pub room: usize,
     pub net: Vec<u8>,

@@ -3,7 +3,7 @@ use mathlib.Core.Path.{sym, ap, ap₂, _∙_}
 use native.Mathlib.Omega.{arith}
 use borrow.Author.Needs.{needs}
 use Rattle.turn.specs.Number.{powerN, _+N_}
-use Rattle.number.specs.Bounds.{Addable}
+use Rattle.phasor.specs.Bounds.{Addable}
 use Rattle.paper.specs.Fault.{Short, shorts, shortOf}
 use Rattle.follows.proofs.Row.{GOf, no-row}
 use Rattle.fits.proofs.Needs.{for-G, ForSums, for-sums, within-is}
