@@ -1,4 +1,6 @@
-/* The program `short` once more, in C over the archive: example NETWORK < FAULT prints the same text. */
+/* The program `short` once more, in C over the archive: example NETWORK [SHOWN] < FAULT prints the same text.
+ * What a refusal's number says goes to standard error, the bytes that the answer shows to the file SHOWN.
+ * Without words it prints what every number says. */
 #include "ranjupeli.h"
 #include <stdio.h>
 
@@ -37,7 +39,7 @@ static void print_phases(const uint8_t *label, char what, const int64_t *x) {
 
 static void print_answer(ranjupeli_answer a) {
     printf("FAULT ");
-    print_label(network + a.start + 2);
+    print_label(ranjupeli_shown(a, network, fault).bytes + 2);
     printf(" %d %d %llu\n", fault[14], fault[15], (unsigned long long)a.amps);
     printf("D %lld\n", (long long)numbers[0]);
     print_phases(NULL, 'I', numbers + 1);
@@ -48,13 +50,28 @@ static void print_answer(ranjupeli_answer a) {
     }
 }
 
+static int write_file(const char *name, ranjupeli_bytes shown) {
+    FILE *file = fopen(name, "wb");
+    if (!file)
+        return 1;
+    size_t n = fwrite(shown.bytes, 1, shown.len, file);
+    return fclose(file) != 0 || n != shown.len;
+}
+
 int main(int argc, char **argv) {
-    size_t network_len = argc > 1 ? read_file(argv[1]) : 0;
+    if (argc < 2) {
+        for (unsigned number = 0; number <= RANJUPELI_SHORT_BUFFER; number++)
+            printf("%u %s\n", number, ranjupeli_sentence(number));
+        return 0;
+    }
+    size_t network_len = read_file(argv[1]);
     size_t fault_len = fread(fault, 1, sizeof fault, stdin);
     ranjupeli_answer a = ranjupeli_solve(network, network_len, fault, fault_len, numbers, RANJUPELI_MOST);
-    if (a.number)
-        printf("REFUSED %d %d\n", a.number, a.place);
-    else
+    if (a.number == RANJUPELI_ACCEPTED) {
         print_answer(a);
-    return 0;
+    } else {
+        printf("REFUSED %d %d\n", a.number, a.place);
+        fprintf(stderr, "%s\n", ranjupeli_sentence(a.number));
+    }
+    return argc > 2 ? write_file(argv[2], ranjupeli_shown(a, network, fault)) : 0;
 }

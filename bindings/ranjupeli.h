@@ -23,6 +23,30 @@ extern "C" {
 #define RANJUPELI_NUMBERS(n) (13 + 24 * (size_t)(n))
 #define RANJUPELI_MOST RANJUPELI_NUMBERS(256)
 
+/* the numbers of an answer: 0, or the rule that was broken first, in the order in which they are tested */
+enum {
+    RANJUPELI_ACCEPTED = 0,
+    RANJUPELI_SHORT_NETWORK = 1,    /* network under 8 bytes */
+    RANJUPELI_HEAD_MARK = 2,        /* head mark */
+    RANJUPELI_HEAD_VALUES = 3,      /* volts, unit or N */
+    RANJUPELI_NETWORK_LENGTH = 4,   /* length not 8 + 44 N */
+    RANJUPELI_BOARD_MARK = 5,       /* board mark */
+    RANJUPELI_LABEL_FORM = 6,       /* form of a record's own label */
+    RANJUPELI_LABEL_USED = 7,       /* label used earlier */
+    RANJUPELI_FEEDER = 8,           /* feeder: none of the source, an earlier label of others */
+    RANJUPELI_KIND_OR_CLOCK = 9,    /* kind or clock, or kind in the wrong record */
+    RANJUPELI_IMPEDANCE = 10,       /* impedance over 4,095 or against the kind's rule */
+    RANJUPELI_SUM = 11,             /* part of Z1, Z2 or an existing Z0 over 4,095 */
+    RANJUPELI_FAULT_LENGTH = 12,    /* fault not 20 bytes */
+    RANJUPELI_FAULT_MARK = 13,      /* fault mark */
+    RANJUPELI_UNKNOWN_BOARD = 14,   /* no board has the label */
+    RANJUPELI_FAULT_KIND = 15,      /* fault kind over 3 */
+    RANJUPELI_FAULT_PHASE = 16,     /* phase over 2, or kind 0 with phase not 0 */
+    RANJUPELI_FAULT_IMPEDANCE = 17, /* part of Zf over 1,365 */
+    RANJUPELI_NO_EARTH_RETURN = 18, /* earth fault at a board without earth return */
+    RANJUPELI_SHORT_BUFFER = 19     /* buffer under 13 + 24 N numbers */
+};
+
 enum { RANJUPELI_NETWORK = 0, RANJUPELI_FAULT = 1 };
 
 /* Accepted: number 0, the place of the faulted board (from 1), N, the amps, and that board's record.
@@ -43,6 +67,45 @@ typedef struct {
 ranjupeli_answer ranjupeli_solve(const uint8_t *network, size_t network_len,
                                  const uint8_t *fault, size_t fault_len,
                                  int64_t *buffer, size_t buffer_len);
+
+/* The bytes that an answer shows, a part of what was lent: pass the same network and fault again. */
+typedef struct {
+    const uint8_t *bytes;
+    size_t len;
+} ranjupeli_bytes;
+
+static inline ranjupeli_bytes ranjupeli_shown(ranjupeli_answer answer, const uint8_t *network, const uint8_t *fault) {
+    const uint8_t *lent = answer.owner == RANJUPELI_NETWORK ? network : fault;
+    ranjupeli_bytes shown = {lent + answer.start, answer.len};
+    return shown;
+}
+
+/* What a number says, for a reader. */
+static inline const char *ranjupeli_sentence(unsigned number) {
+    switch (number) {
+    case RANJUPELI_ACCEPTED: return "the network and the fault are answered";
+    case RANJUPELI_SHORT_NETWORK: return "the network has under 8 bytes";
+    case RANJUPELI_HEAD_MARK: return "the head does not begin with HD";
+    case RANJUPELI_HEAD_VALUES: return "the volts, the unit or the number of boards is out of its range";
+    case RANJUPELI_NETWORK_LENGTH: return "the network does not have 8 + 44 N bytes";
+    case RANJUPELI_BOARD_MARK: return "a record does not begin with BD";
+    case RANJUPELI_LABEL_FORM: return "a record's own label has a wrong form";
+    case RANJUPELI_LABEL_USED: return "a label is used by an earlier record";
+    case RANJUPELI_FEEDER: return "the source has a feeder, or a record's feeder is no earlier label";
+    case RANJUPELI_KIND_OR_CLOCK: return "a record's kind or clock is wrong, or the kind stands in the wrong record";
+    case RANJUPELI_IMPEDANCE: return "an impedance is over 4,095 or against the rule of the record's kind";
+    case RANJUPELI_SUM: return "a part of an impedance summed over a board's chain is over 4,095";
+    case RANJUPELI_FAULT_LENGTH: return "the fault does not have 20 bytes";
+    case RANJUPELI_FAULT_MARK: return "the fault does not begin with FT";
+    case RANJUPELI_UNKNOWN_BOARD: return "no board has the fault's label";
+    case RANJUPELI_FAULT_KIND: return "the fault's kind is over 3";
+    case RANJUPELI_FAULT_PHASE: return "the fault's phase is over 2, or not 0 in a fault of all three phases";
+    case RANJUPELI_FAULT_IMPEDANCE: return "a part of the fault's impedance is over 1,365";
+    case RANJUPELI_NO_EARTH_RETURN: return "an earth fault is asked at a board without earth return";
+    case RANJUPELI_SHORT_BUFFER: return "the buffer has under 13 + 24 N numbers";
+    }
+    return "no answer has this number";
+}
 
 #ifdef __cplusplus
 }

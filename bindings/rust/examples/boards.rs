@@ -1,4 +1,7 @@
-//! The program `short` once more, in Rust over the archive: boards NETWORK < FAULT prints the same text.
+//! The program `short` once more, in Rust over the archive: boards NETWORK [SHOWN] < FAULT prints the same text.
+//! What a refusal's number says goes to standard error, the bytes that the answer shows to the file SHOWN.
+//! Without words it prints what every number says.
+use ranjupeli::Outcome;
 use std::io::Read;
 
 // A label without its closing spaces.
@@ -24,16 +27,31 @@ fn print_answer(network: &[u8], fault: &[u8], a: ranjupeli::Answer, x: &[i64]) {
     }
 }
 
-fn main() {
+fn print_numbers() {
+    let outcomes = (0..).map_while(Outcome::from_number);
+    outcomes.for_each(|outcome| println!("{} {}", outcome as u8, outcome.sentence()));
+}
+
+fn main() -> std::io::Result<()> {
+    let mut words = std::env::args().skip(1);
+    let Some(file) = words.next() else {
+        print_numbers();
+        return Ok(());
+    };
     // a missing file counts as empty
-    let network = std::env::args().nth(1).and_then(|file| std::fs::read(file).ok()).unwrap_or_default();
+    let network = std::fs::read(file).unwrap_or_default();
     let mut fault = Vec::new();
-    std::io::stdin().take(21).read_to_end(&mut fault).unwrap_or_default();
+    std::io::stdin().take(21).read_to_end(&mut fault)?;
     let mut numbers = vec![0; ranjupeli::MOST];
     let a = ranjupeli::solve(&network, &fault, &mut numbers);
-    if a.number == 0 {
+    if a.outcome() == Some(Outcome::Accepted) {
         print_answer(&network, &fault, a, &numbers);
     } else {
         println!("REFUSED {} {}", a.number, a.place);
+        eprintln!("{}", a.outcome().map_or("no answer has this number", Outcome::sentence));
+    }
+    match words.next() {
+        Some(file) => std::fs::write(file, a.shown(&network, &fault)),
+        None => Ok(()),
     }
 }
