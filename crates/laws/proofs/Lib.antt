@@ -26,3 +26,5 @@ pub mod Demand
 pub mod Seen
 -- the premise is needed
 pub mod Needed
+-- one law follows from the others
+pub mod Blocked
