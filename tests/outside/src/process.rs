@@ -123,12 +123,10 @@ pub fn stream_of(seed: u64, first: u64, end: u64) -> Vec<u8> {
     bytes
 }
 
-/// One process, cases `first` to `end` - 1; how many it answered.
-fn chunk(seed: u64, first: u64, end: u64, cmd: &[String], t: &mut Tally) -> Result<u64, String> {
-    let mut batch = start(cmd, stream_of(seed, first, end))?;
-    let cases = (first..end).map(|i| (i, make::case(seed, i)));
-    let (answered, mark) = match compare(&mut batch.answers, cases, t) {
-        Ok(end) => end,
+/// What a process answers, compared. A difference is told before how the process ended, which may be by it.
+fn heard(mut batch: Batch, cases: impl Iterator<Item = (u64, Case)>, t: &mut Tally) -> Result<Ended, String> {
+    match compare(&mut batch.answers, cases, t) {
+        Ok(end) => stop(batch).map(|()| end),
         Err(difference) => {
             // The process may still be writing; it is ours, so it is ended by its own handle.
             drop(batch.child.kill());
@@ -136,10 +134,15 @@ fn chunk(seed: u64, first: u64, end: u64, cmd: &[String], t: &mut Tally) -> Resu
             if let Err(status) = stop(batch) {
                 told += &format!("\n {status} (it is stopped at the first difference)");
             }
-            return Err(told);
+            Err(told)
         }
-    };
-    stop(batch)?;
+    }
+}
+
+/// One process, cases `first` to `end` - 1; how many it answered.
+fn chunk(seed: u64, first: u64, end: u64, cmd: &[String], t: &mut Tally) -> Result<u64, String> {
+    let cases = (first..end).map(|i| (i, make::case(seed, i)));
+    let (answered, mark) = heard(start(cmd, stream_of(seed, first, end))?, cases, t)?;
     match &mark {
         b"END\n" if answered == end - first => Ok(answered),
         b"BUDG" if answered > 0 => Ok(answered),
@@ -170,11 +173,7 @@ pub fn run(seed: u64, count: u64, command: &[String], tally: &mut Tally) -> Resu
 pub fn one(case: Case, command: &[String], tally: &mut Tally) -> Result<(), String> {
     let mut bytes = Vec::new();
     write_case(&mut bytes, &case).expect("memory takes all");
-    let mut batch = start(command, bytes)?;
-    let result = compare(&mut batch.answers, std::iter::once((0, case)), tally);
-    stop(batch)?;
-    result?;
-    Ok(())
+    heard(start(command, bytes)?, std::iter::once((0, case)), tally).map(|_| ())
 }
 
 /// Streams cut inside a case must give the whole cases before it and "CUT\n"; an empty one "END\n".
@@ -192,12 +191,9 @@ pub fn cuts(seed: u64, count: u64, command: &[String], tally: &mut Tally) -> Res
             _ => next.len() / 2,
         };
         bytes.extend(&next[..keep]);
-        let mut batch = start(command, bytes)?;
         let cases = (from..from + whole).map(|i| (i, make::case(seed, i)));
-        let result = compare(&mut batch.answers, cases, tally);
-        stop(batch)?;
         let due = if keep == 0 { b"END\n" } else { b"CUT\n" };
-        if result? != (whole, *due) {
+        if heard(start(command, bytes)?, cases, tally)? != (whole, *due) {
             return Err(format!("stream {index}, {keep} bytes of a case: wrong end"));
         }
     }
