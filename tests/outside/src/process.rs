@@ -124,7 +124,11 @@ pub fn stream_of(seed: u64, first: u64, end: u64) -> Vec<u8> {
 }
 
 /// What a process answers, compared. A difference is told before how the process ended, which may be by it.
-fn heard(mut batch: Batch, cases: impl Iterator<Item = (u64, Case)>, t: &mut Tally) -> Result<Ended, String> {
+fn heard(
+    mut batch: Batch,
+    cases: impl Iterator<Item = (u64, Case)>,
+    t: &mut Tally,
+) -> Result<Ended, String> {
     match compare(&mut batch.answers, cases, t) {
         Ok(end) => stop(batch).map(|()| end),
         Err(difference) => {
