@@ -8,7 +8,6 @@ use lib.IntN.{ℤ, pos, negsuc}
 use lib.ListN.{replicate, length}
 use base.Fml.{Lft}
 use denote.Ref.{RefT}
-use Rattle.lemmas.specs.Small.{Small}
 use Rattle.lemmas.proofs.RuledOut.{_↛_, RuledOut, ever, ends, by, by-equation, list, wholes, lent}
 use Rattle.turn.specs.declared.Num.{Num}
 use Rattle.turn.specs.Number.{wholeN, complexN, _+N_, negN, _·N_, timesT, _*N_, powerN}
@@ -17,7 +16,8 @@ use Rattle.turn.proofs.Told.{within}
 use Rattle.paper.specs.declared.Ohms.{Ohms}
 use Rattle.paper.specs.declared.Seq.{Seq}
 use Rattle.paper.specs.declared.Fault.{Fault}
-use Rattle.paper.specs.Bounds.{AtMost, Flat, Plane, EachSeq, mostI, mostW}
+use Rattle.paper.proofs.Told.{small}
+use Rattle.paper.specs.Bounds.{Plane, EachSeq, mostI, mostW}
 use Rattle.paper.specs.Kind.{ohms}
 use Rattle.paper.specs.Fault.{nilN, seq, Fault·open}
 use Rattle.paper.specs.Phase.{four, phases, Phase·open}
@@ -25,7 +25,6 @@ use Rattle.paper.specs.Answer.{flat}
 use Rattle.node.specs.declared.Node.{Node}
 use Rattle.chain.specs.declared.share.Shared.{Shared}
 use Rattle.chain.specs.Carried.{carriedOf}
-use Rattle.fault.specs.Short.{shortedOf}
 use Rattle.board.specs.declared.front.Faulted.{Faulted}
 use Rattle.board.specs.Put.{twelveOf}
 use Rattle.board.specs.Faulted.{faultedFrom, topOf, FaultSmall}
@@ -155,15 +154,6 @@ thrice = wholeN (pos 3)
 abbrev fields : Faulted → ℕ
 fields f = list (f .start ∷ f .turn ∷ f .phase ∷ [])
 
-small : {m r x : ℕ} → r ≤ m → x ≤ m → AtMost m (ohms r x)
-small h k = record { r-most = h; x-most = k }
-
-ohm-small : AtMost 4095 ohm
-ohm-small = small (omega arith) (omega arith)
-
-zf-small : AtMost 1365 (ohms 0 0)
-zf-small = small (omega arith) (omega arith)
-
 pub fault-at-not : RuledOut (fault-at.Pre tt) (ever (fault-at.Post tt)) (
     (node 1 5, (to-earth, tt)) ↛ faulted (seq thrice thrice thrice) (pos 9) 1 5 1  -- currents_of_another_phase
     ∷ (node 1 5, (to-earth, tt)) ↛ faulted (seq thrice thrice thrice) (pos 9) 5 5 2  -- start_is_turn
@@ -171,7 +161,7 @@ pub fault-at-not : RuledOut (fault-at.Pre tt) (ever (fault-at.Post tt)) (
 unfolding faultedFrom
 fault-at-not =
     by-equation (λ a. faultedFrom (a .0) (a .1 .0)) fields (λ a z e s. s)
-    ((ohm-small, ohm-small, ohm-small, zf-small), ((ohm-small, ohm-small, ohm-small, zf-small), tt)) tt
+    ((small tt, small tt, small tt, small tt), ((small tt, small tt, small tt, small tt), tt)) tt
 
 -- ---- the numbers of the fault, and of a board: D is 1, so that voltages are powers of t where nothing is shared; I1 is j, or I0 is 1
 abbrev forth : ℕ → Faulted
@@ -183,11 +173,8 @@ earth k = faulted (seq nilN nilN one) (pos 1) k 0 0
 abbrev alone : Shared
 alone = record { z1 = ohms 0 0; z2 = ohms 0 0; z0 = ohms 0 0 }
 
-no-ohms : AtMost 4095 (ohms 0 0)
-no-ohms = small (omega arith) (omega arith)
-
 alone-small : ShareSmall alone
-alone-small = record { share1 = no-ohms; share2 = no-ohms; share0 = no-ohms }
+alone-small = record { share1 = small tt; share2 = small tt; share0 = small tt }
 
 i-nil : Plane mostI nilN
 i-nil = plane mostI (within mostI nilN tt)

@@ -11,7 +11,8 @@ use Rattle.turn.specs.Number.{wholeN}
 use Rattle.paper.specs.declared.Seq.{Seq}
 use Rattle.paper.specs.Kind.{ohms}
 use Rattle.paper.specs.Fault.{seq}
-use Rattle.paper.specs.Phase.{onlyIf, four}
+use Rattle.paper.specs.Phase.{onlyIf}
+use Rattle.paper.proofs.Told.{parts, sequences}
 use Rattle.node.specs.declared.Node.{Node}
 use Rattle.node.specs.Node.{noNode}
 use Rattle.chain.specs.declared.share.Shared.{Shared}
@@ -24,11 +25,8 @@ use Rattle.chain.proofs.carried.carried.Reads as carried
 use Rattle.chain.proofs.chain.Reads as chain
 
 -- ---- answers told apart
-abbrev parts : Shared → ℕ
-parts s = list (s .z1 .r ∷ s .z1 .x ∷ s .z2 .r ∷ s .z2 .x ∷ s .z0 .r ∷ s .z0 .x ∷ [])
-
-abbrev currents : Seq → ℕ
-currents i = wholes (four (i .s1) ++ four (i .s2) ++ four (i .s0))
+abbrev ohms-told : Shared → ℕ
+ohms-told s = list (parts (s .z1) ++ parts (s .z2) ++ parts (s .z0))
 
 abbrev bits : List Bool → ℕ
 bits [] = 0
@@ -66,7 +64,7 @@ pub no-share-not : RuledOut (no-share.Pre tt) (ever (no-share.Post tt)) (
     tt ↛ record { z1 = ohms 1 0; z2 = ohms 1 0; z0 = ohms 1 0 }  -- r_shared_by_none
     ∷ tt ↛ shared 1 1 1  -- x_shared_by_none
     ∷ [])
-no-share-not = by-equation (λ a. noShare) parts (λ a z e s. s) (tt, (tt, tt)) tt
+no-share-not = by-equation (λ a. noShare) ohms-told (λ a z e s. s) (tt, (tt, tt)) tt
 
 pub share-not : RuledOut (share.Pre tt) (ever (share.Post tt)) (
     (true, (fed 0, (1, (shared 4 5 6, tt)))) ↛ shared 1 1 3  -- negative_like_positive
@@ -74,7 +72,7 @@ pub share-not : RuledOut (share.Pre tt) (ever (share.Post tt)) (
     ∷ (true, (fed 0, (2, (shared 4 5 6, tt)))) ↛ shared 1 2 3  -- zero_of_any_start
     ∷ [])
 unfolding shareFrom
-share-not = by-equation (λ a. shareFrom (a .0) (a .1 .0) (a .1 .1 .0) (a .1 .1 .1 .0)) parts (λ a z e s. s) (tt, (tt, (tt, tt))) tt
+share-not = by-equation (λ a. shareFrom (a .0) (a .1 .0) (a .1 .1 .0) (a .1 .1 .1 .0)) ohms-told (λ a z e s. s) (tt, (tt, (tt, tt))) tt
 
 pub carried-not : RuledOut (carried.Pre tt) (ever (carried.Post tt)) (
     (true, (false, (wholeSeq 1 2 3, tt))) ↛ wholeSeq 1 2 3  -- i0_through_delta
@@ -82,7 +80,7 @@ pub carried-not : RuledOut (carried.Pre tt) (ever (carried.Post tt)) (
     ∷ (false, (false, (wholeSeq 1 2 3, tt))) ↛ wholeSeq 1 1 1  -- one_for_none
     ∷ [])
 unfolding carriedOf onlyIf
-carried-not = by-equation (λ a. carriedOf (a .0) (a .1 .0) (a .1 .1 .0)) currents (λ a z e s. s) (tt, (tt, (tt, tt))) tt
+carried-not = by-equation (λ a. carriedOf (a .0) (a .1 .0) (a .1 .1 .0)) (λ i. wholes (sequences i)) (λ a z e s. s) (tt, (tt, (tt, tt))) tt
 
 pub chain-not : RuledOut (chain.Pre tt) (ever (chain.Post tt)) (
     (two, (2, tt)) ↛ (false ∷ true ∷ true ∷ replicate 253 false)  -- marked_from_0

@@ -1,9 +1,8 @@
 -- What each contract of this crate rules out: a call that it allows, and an answer that it does not. Assumes nothing.
-use mathlib.Core.List.{List, [], _∷_, _++_}
+use mathlib.Core.List.{[], _∷_}
 use Prim.Native.Nat.{ℕ}
 use native.Mathlib.Omega.{arith}
-use lib.Dec.{T, leb, leb→le}
-use lib.IntN.{ℤ, pos, negsuc}
+use lib.IntN.{pos, negsuc}
 use Rattle.lemmas.specs.Small.{Small}
 use Rattle.turn.specs.declared.Num.{Num}
 use Rattle.turn.specs.Number.{wholeN, complexN, _+N_, negN, _·N_, timesT, _*N_, powerN, conjN, squareN}
@@ -13,7 +12,8 @@ use Rattle.paper.specs.declared.Seq.{Seq}
 use Rattle.paper.specs.Bounds.{AtMost, Plane, EachSeq, mostD, mostI}
 use Rattle.paper.specs.Kind.{ohms}
 use Rattle.paper.specs.Fault.{nilN, numOf, seq, G, shortOf, Fault·open}
-use Rattle.paper.specs.Phase.{voltageOf, four}
+use Rattle.paper.specs.Phase.{voltageOf}
+use Rattle.paper.proofs.Told.{sequences, small}
 use Rattle.fits.proofs.Plane.{plane-whole}
 use Rattle.fault.specs.declared.Shorted.{Shorted}
 use Rattle.fault.specs.Short.{shortedOf}
@@ -26,9 +26,6 @@ use Rattle.fault.proofs.short.Reads as short
 use Rattle.fault.proofs.volts.voltage.Reads as voltage
 
 -- ---- answers told apart
-abbrev parts : Seq → List ℤ
-parts s = four (s .s1) ++ (four (s .s2) ++ four (s .s0))
-
 -- ---- j times a number; impedances of nothing and of j2, and a fault among them
 abbrev +j : ℕ → Num
 +j x = complexN (pos 0) (pos x)
@@ -41,9 +38,6 @@ none = ohms 0 0
 
 abbrev j2 : Ohms
 j2 = ohms 0 2
-
-small : {most x : ℕ} → T (leb x most) → AtMost most (ohms 0 x)
-small {most} {x} t = record { r-most = omega arith; x-most = leb→le x most t }
 
 abbrev kind : ℕ → Ohms × (Ohms × (Ohms × (Ohms × (ℕ × Unit {0}))))
 kind k = (j2, (none, (j2, (none, (k, tt)))))
@@ -86,7 +80,7 @@ pub seq-not : RuledOut (seq-of.Pre tt) (ever (seq-of.Post tt)) (
     (+j 1, (+j 2, (+j 3, tt))) ↛ seq (+j 1) (+j 3) (+j 2)  -- sequences_exchanged
     ∷ (+j 1, (+j 2, (+j 3, tt))) ↛ seq (+j 1) (+j 1) (+j 3)  -- negative_is_positive
     ∷ [])
-seq-not = by-equation (λ a. seq (a .0) (a .1 .0) (a .1 .1 .0)) (λ s. wholes (parts s)) (λ a z e s. s) (tt, (tt, tt)) tt
+seq-not = by-equation (λ a. seq (a .0) (a .1 .0) (a .1 .1 .0)) (λ s. wholes (sequences s)) (λ a z e s. s) (tt, (tt, tt)) tt
 
 pub short-not : RuledOut (short.Pre tt) (ever (short.Post tt)) (
     kind 0 ↛ shorted 1 (-j 2) nilN nilN  -- d_is_one
@@ -99,7 +93,7 @@ pub short-not : RuledOut (short.Pre tt) (ever (short.Post tt)) (
     ∷ [])
 unfolding shortedOf Fault·open _+N_ negN _·N_ timesT _*N_ powerN conjN squareN
 short-not =
-    by-equation (λ a. shortedOf (a .0) (a .1 .0) (a .1 .1 .0) (a .1 .1 .1 .0) (a .1 .1 .1 .1 .0)) (λ s. wholes (s .d ∷ parts (s .i))) (λ a z e s. s)
+    by-equation (λ a. shortedOf (a .0) (a .1 .0) (a .1 .1 .0) (a .1 .1 .1 .0) (a .1 .1 .1 .1 .0)) (λ s. wholes (s .d ∷ sequences (s .i))) (λ a z e s. s)
     (asked, (asked, (asked, (asked, (asked, (asked, (asked, tt))))))) tt
   where
     asked : AtMost 4095 j2 × (AtMost 4095 none × (AtMost 4095 j2 × AtMost 1365 none))
@@ -112,7 +106,7 @@ pub voltage-not : RuledOut (voltage.Pre tt) (ever (voltage.Post tt)) (
     ∷ [])
 unfolding voltageOf numOf _+N_ negN _·N_ timesT _*N_
 voltage-not =
-    by-equation (λ a. voltageOf (a .0) (a .1 .0) (a .1 .1 .0) (a .1 .1 .1 .0) (a .1 .1 .1 .1 .0)) (λ s. wholes (parts s)) (λ a z e s. s) (asked, (asked, (asked, tt))) tt
+    by-equation (λ a. voltageOf (a .0) (a .1 .0) (a .1 .1 .0) (a .1 .1 .1 .0) (a .1 .1 .1 .1 .0)) (λ s. wholes (sequences s)) (λ a z e s. s) (asked, (asked, (asked, tt))) tt
   where
     asked : Small mostD (pos 4) × (EachSeq (Plane mostI) ones × (AtMost 4095 j2 × (AtMost 4095 j2 × AtMost 4095 none)))
     asked = (record { small = omega arith }, (ones-small, (small tt, (small tt, small tt))))

@@ -16,6 +16,7 @@ use Rattle.paper.specs.Bytes.{u8At, u16At, within, Bytes·open}
 use Rattle.paper.specs.Kind.{ohms}
 use Rattle.paper.specs.File.{ohmsAt, headOf, boardOf, faultOf, boardsOf, File·open}
 use Rattle.paper.specs.Refusal.{headRanges}
+use Rattle.paper.proofs.Told.{parts}
 use Rattle.node.specs.Tables.{table, emptyBoard}
 use Rattle.file.proofs.field.pair.Reads as pair
 use Rattle.file.proofs.field.u16_at.Reads as u16-at
@@ -30,9 +31,6 @@ use Rattle.file.proofs.table.empty_board.Reads as empty-board
 use Rattle.file.proofs.table.decode.Reads as decode
 
 -- ---- answers told apart
-abbrev parts : Ohms → List ℕ
-parts z = z .r ∷ z .x ∷ []
-
 abbrev of-head : Head → ℕ
 of-head h = list (h .volts ∷ h .unit ∷ h .boards ∷ [])
 

@@ -1,19 +1,18 @@
 -- What each contract of this crate rules out: a call that it allows, and an answer that it does not. Assumes nothing.
-use mathlib.Core.Bool.{Bool, true, false}
-use mathlib.Core.List.{List, [], _∷_}
-use Prim.Native.Nat.{ℕ, _+_, _*_}
-use native.Mathlib.Omega.{arith}
+use mathlib.Core.Bool.{true, false}
+use mathlib.Core.List.{[], _∷_}
+use Prim.Native.Nat.{ℕ, _+_}
 use lib.ListN.{replicate}
 use Rattle.paper.specs.declared.Ohms.{Ohms}
 use Rattle.paper.specs.declared.Board.{Board}
-use Rattle.paper.specs.Bounds.{AtMost}
 use Rattle.paper.specs.Bytes.{oneOf}
 use Rattle.paper.specs.Kind.{ohms, _+Ω_, thrice, isZero, sameOhms, partOver, kinds, known, kindOf, standsAt, holds, allHold, term, zeroTerm}
+use Rattle.paper.proofs.Told.{parts, small}
 use Rattle.paper.specs.Refusal.{kindWrong, impedanceWrong}
 use Rattle.kind.specs.Zero.{zeroWord}
 use Rattle.kind.specs.declared.zero.ZeroWord.{ZeroWord}
 use Rattle.kind.specs.declared.zero.ZeroWord.the-variants.{Starts, GoesOn, Blocked}
-use Rattle.lemmas.proofs.RuledOut.{_↛_, RuledOut, ever, by-equation, bool}
+use Rattle.lemmas.proofs.RuledOut.{_↛_, RuledOut, ever, by-equation, bool, list}
 use Rattle.kind.proofs.impedance.is_zero.Reads as is-zero
 use Rattle.kind.proofs.impedance.same_ohms.Reads as same-ohms
 use Rattle.kind.proofs.impedance.over.Reads as over
@@ -28,9 +27,6 @@ word Starts = 0
 word GoesOn = 1
 word Blocked = 2
 
-abbrev parts : Ohms → ℕ
-parts z = z .r + 65536 * z .x
-
 -- ---- boards: kind and clock; kind and impedances
 abbrev board : ℕ → ℕ → Ohms → Ohms → Ohms → Ohms → Board
 board k c z1 z2 z0 zn = record { z1 = z1; z2 = z2; z0 = z0; zn = zn; label = replicate 12 32; feeder = replicate 12 32; kind = k; clock = c }
@@ -43,12 +39,6 @@ one = ohms 1 1
 
 abbrev turned : ℕ → ℕ → Board
 turned k c = board k c one one none none
-
-1-small : AtMost 4095 one
-1-small = record { r-most = omega arith; x-most = omega arith }
-
-0-small : AtMost 4095 none
-0-small = record { r-most = omega arith; x-most = omega arith }
 
 -- ---- the contracts
 pub is-zero-not : RuledOut (is-zero.Pre tt) (ever (is-zero.Post tt)) (
@@ -106,4 +96,4 @@ pub zero-term-not : RuledOut (zero-term.Pre tt) (ever (zero-term.Post tt)) (
     ∷ (board 0 0 one one none one, tt) ↛ one  -- zn_once
     ∷ [])
 unfolding kindOf kinds zeroTerm term _+Ω_ thrice
-zero-term-not = by-equation (λ a. zeroTerm (kindOf (a .0 .kind) .zero-seq) (a .0)) parts (λ a z e s. s) ((1-small, 1-small), ((1-small, 0-small), ((0-small, 1-small), tt))) tt
+zero-term-not = by-equation (λ a. zeroTerm (kindOf (a .0 .kind) .zero-seq) (a .0)) (λ z. list (parts z)) (λ a z e s. s) ((small tt, small tt), ((small tt, small tt), ((small tt, small tt), tt))) tt

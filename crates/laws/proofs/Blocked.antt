@@ -12,7 +12,6 @@ use borrow.Author.Tests.{eqb-true}
 use Rattle.lemmas.proofs.Bools.{not-both}
 use Rattle.lemmas.proofs.Solver.{con, _⊕_, _⊗_, ⊝_, eqn}
 use Rattle.lemmas.proofs.Solve.{solve, solveBy}
-use Rattle.turn.specs.declared.Num.{Num}
 use Rattle.turn.specs.Number.{wholeN, powerN, timesT, turnN, _+N_, _*N_}
 use Rattle.turn.proofs.Ring.{Nring, +N-zero}
 use Rattle.turn.proofs.TRing.{Tring}
@@ -29,7 +28,7 @@ use Rattle.follows.proofs.Given.{question}
 use Rattle.laws.specs.Values.{Values, Everywhere}
 use Rattle.laws.specs.Laws.{Kirchhoff, draws0}
 use Rattle.laws.specs.Connection.{Condition, Connected}
-use Rattle.laws.proofs.Sums.{only-nil, drawn-nil}
+use Rattle.laws.proofs.Sums.{drawn-nil}
 use Rattle.laws.proofs.Trees.{none-unearthed}
 use Rattle.laws.proofs.Form.{places}
 use Rattle.laws.proofs.Zero.{accepted-by}

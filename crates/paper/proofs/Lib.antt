@@ -3,3 +3,5 @@ pub mod Written
 pub mod Compare
 pub mod Calls
 pub mod Figures
+-- what tables of wrong answers say of impedances and sequences
+pub mod Told

@@ -9,7 +9,7 @@ use base.Fml.{Lft}
 use Rattle.lemmas.proofs.RuledOut.{_↛_, RuledOut, ever, by, by-equation, bool, list, lent}
 use Rattle.paper.specs.declared.Ohms.{Ohms}
 use Rattle.paper.specs.declared.Board.{Board}
-use Rattle.paper.specs.Bounds.{AtMost}
+use Rattle.paper.proofs.Told.{parts, small}
 use Rattle.paper.specs.Bytes.{Bytes·open}
 use Rattle.paper.specs.Label.{Label·open}
 use Rattle.paper.specs.Kind.{ohms, Kind·open}
@@ -33,7 +33,7 @@ use Rattle.records.proofs.judge.Reads as judge
 
 -- ---- answers told apart
 abbrev fields : Node → List ℕ
-fields n = n .z1 .r ∷ n .z1 .x ∷ n .z2 .r ∷ n .z2 .x ∷ n .z0 .r ∷ n .z0 .x ∷ n .feeder ∷ n .start ∷ n .turn ∷ []
+fields n = parts (n .z1) ++ parts (n .z2) ++ parts (n .z0) ++ (n .feeder ∷ n .start ∷ n .turn ∷ [])
 
 -- ---- nodes and boards
 abbrev node : Ohms → Ohms → Ohms → ℕ → ℕ → ℕ → Node
@@ -72,14 +72,11 @@ abbrev placed : ℕ → Judged
 placed r = record { nodes = table noNode []; place = r; number = 5 }
 
 -- ---- what the contracts ask
-small : (x : ℕ) → T (leb x 4095) → AtMost 4095 (ohms 0 x)
-small x h = record { r-most = lit≤ tt; x-most = lit≤ h }
-
 own-small : (k c x : ℕ) → T (leb c 11) → T (leb x 4095) → OwnSmall (board k c (ohms 0 x))
-own-small k c x h h2 = record { own1 = small 1 tt; own2 = small x h2; own0 = small 1 tt; own-n = small 0 tt; own-clock = lit≤ h }
+own-small k c x h h2 = record { own1 = small tt; own2 = small h2; own0 = small tt; own-n = small tt; own-clock = lit≤ h }
 
 up-small : (x x0 s : ℕ) → T (leb x 4095) → T (leb x0 4095) → UpSmall (node (ohms 0 x) j1 (ohms 0 x0) 0 s 0)
-up-small x x0 s h h0 = record { up1 = small x h; up2 = small 1 tt; up0 = small x0 h0; up-turn = lit≤ tt }
+up-small x x0 s h h0 = record { up1 = small h; up2 = small tt; up0 = small h0; up-turn = lit≤ tt }
 
 -- ---- the contracts
 pub no-node-not : RuledOut (no-node.Pre tt) (ever (no-node.Post tt)) (

@@ -1,7 +1,6 @@
 -- What contracts of this program rule out: room for fewer bytes than it is to read. Assumes nothing.
-use mathlib.Core.List.{List, [], _∷_}
+use mathlib.Core.List.{[], _∷_}
 use mathlib.Core.Path.{sym}
-use Prim.Native.Nat.{ℕ}
 use lib.ListN.{length, replicate}
 use Rattle.lemmas.proofs.RuledOut.{_↛_, RuledOut, ever, by}
 use Rattle.short.specs.Limits.{fileMost, faultMost}
