@@ -3,12 +3,14 @@
 #define BENCH_H
 #include "ranjupeli.h"
 
-enum { SHAPES = 3, MOST_BYTES = 8 + 44 * 256, MOST_DOUBLES = 2 * (3 + 6 * 256) };
+enum { SHAPES = 3, VOLTS = 230, UNIT = 100, MOST_BYTES = 8 + 44 * 256, MOST_DOUBLES = 2 * (3 + 6 * 256) };
 
-/* a network of one of the shapes, and a fault at a board of it */
+/* a network of one of the shapes, the boards of which it is the file, and a fault at one of them */
 typedef struct {
     uint8_t network[MOST_BYTES], fault[20];
     size_t network_len;
+    ranjupeli_board boards[256];
+    size_t n;
 } question;
 
 extern const char *const shape_names[SHAPES];
@@ -19,14 +21,20 @@ uint32_t chance(uint32_t below);
 ranjupeli_answer exact_solve(const uint8_t *network, size_t network_len, const uint8_t *fault, size_t fault_len, int64_t *buffer, size_t buffer_len);
 /* the real and the imaginary part of each voltage and current, where the others have four numbers */
 ranjupeli_answer doubles_solve(const uint8_t *network, size_t network_len, const uint8_t *fault, size_t fault_len, double *buffer, size_t buffer_len);
+ranjupeli_written exact_write(uint16_t volts, uint16_t unit, const ranjupeli_board *boards, size_t boards_len, uint8_t *out, size_t out_len);
 
 /* whether the three agree on a question: exactly, and nearly */
 int agree(const question *q);
 /* all kinds, phases and boards of some networks, and damaged ones: how many questions; 0 where some differ */
 int agree_on_many(void);
+/* whether both writers write the question's network from its boards */
+int agree_on_file(const question *q);
+/* sound and spoilt boards, in outputs of several lengths: how many; 0 where some differ */
+int agree_on_many_files(void);
 
-enum { OURS, EXACT, DOUBLES, SOLVERS };
-void run_solver(int who, const question *q);
+/* who is called: the solvers, and behind them the writers */
+enum { OURS, EXACT, DOUBLES, SOLVERS, OUR_WRITER = SOLVERS, EXACT_WRITER, ALL };
+void run(int who, const question *q);
 /* the bytes of stack that a call takes, its own frame and all below */
 size_t stack_of(int who, const question *q);
 #endif

@@ -55,12 +55,22 @@ static void put_record(uint8_t *s, int r) {
         put_ohms(s + 40, 0, 1);
 }
 
+/* The board of a record. The four impedances stand first in a board, as one behind the other in the record. */
+static void take_board(ranjupeli_board *b, const uint8_t *s) {
+    memcpy(b, s + 28, 16);
+    memcpy(b->label, s + 2, 12);
+    memcpy(b->feeder, s + 14, 12);
+    b->kind = s[26];
+    b->clock = s[27];
+}
+
 void make_network(question *q, int shape, int n) {
     memset(q, 0, sizeof *q);
+    q->n = (size_t)n;
     q->network_len = 8 + 44 * (size_t)n;
     memcpy(q->network, "HD", 2);
-    put_u16(q->network + 2, 230);
-    put_u16(q->network + 4, 100);
+    put_u16(q->network + 2, VOLTS);
+    put_u16(q->network + 4, UNIT);
     put_u16(q->network + 6, (unsigned)n);
     for (int r = 1; r <= n; r++) {
         uint8_t *s = q->network + 8 + 44 * (r - 1);
@@ -72,6 +82,7 @@ void make_network(question *q, int shape, int n) {
             put_label(s + 14, feeder_of(shape, r));
             put_record(s, r);
         }
+        take_board(&q->boards[r - 1], s);
     }
 }
 

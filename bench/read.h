@@ -1,4 +1,4 @@
-/* What both yardsticks read: the network and the fault, with the paper's checks in the paper's order. */
+/* What the yardsticks read: the network, its boards and the fault, with the paper's checks in the paper's order. */
 #ifndef BENCH_READ_H
 #define BENCH_READ_H
 #include "ranjupeli.h"
@@ -6,9 +6,7 @@
 
 enum { HEAD = 8, RECORD = 44, FAULT = 20, BOARDS = 256, MOST = 4095, MOST_ZF = 1365 };
 
-typedef struct {
-    uint16_t r, x;
-} ohms;
+typedef ranjupeli_ohms ohms;
 
 /* twelve bytes as two words: two comparisons tell two labels apart */
 typedef struct {
@@ -27,6 +25,13 @@ typedef struct {
     uint16_t volts, unit, n;
     board boards[BOARDS];
 } network;
+
+/* a record, of a file or as a board that is lent: its fields, and where its labels stand */
+typedef struct {
+    const uint8_t *label, *feeder;
+    ohms z1, z2, z0, zn;
+    uint8_t kind, clock;
+} record;
 
 typedef struct {
     ohms zf;
@@ -49,6 +54,14 @@ static inline label label_at(const uint8_t *s) {
     memcpy(&l.first, s, 8);
     memcpy(&l.last, s + 8, 4);
     return l;
+}
+
+static inline record record_at(const uint8_t *s) {
+    return (record){s + 2, s + 14, ohms_at(s + 28), ohms_at(s + 32), ohms_at(s + 36), ohms_at(s + 40), s[26], s[27]};
+}
+
+static inline record record_of(const ranjupeli_board *b) {
+    return (record){b->label, b->feeder, b->z1, b->z2, b->z0, b->zn, b->kind, b->clock};
 }
 
 static inline ranjupeli_answer refused(uint8_t number, uint16_t place, uint8_t owner, size_t start, size_t len) {

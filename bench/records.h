@@ -1,4 +1,4 @@
-/* Records judged one after the other (5 to 11), and their sums. */
+/* Records judged one after the other, and their sums. */
 #ifndef BENCH_RECORDS_H
 #define BENCH_RECORDS_H
 #include "read.h"
@@ -20,61 +20,62 @@ static inline int kind_wrong(size_t r, uint8_t kind, uint8_t clock) {
 }
 
 /* 10 */
-static inline int impedance_wrong(uint8_t kind, ohms z1, ohms z2, ohms z0, ohms zn) {
-    if (over(z1, MOST) || over(z2, MOST) || over(z0, MOST) || over(zn, MOST))
+static inline int impedance_wrong(record f) {
+    if (over(f.z1, MOST) || over(f.z2, MOST) || over(f.z0, MOST) || over(f.zn, MOST))
         return 1;
-    switch (kind) {
+    switch (f.kind) {
     case 0:
-        return is_zero(z1) || is_zero(z2);
+        return is_zero(f.z1) || is_zero(f.z2);
     case 1:
-        return is_zero(z1) || is_zero(z2) || !is_zero(z0) || !is_zero(zn);
+        return is_zero(f.z1) || is_zero(f.z2) || !is_zero(f.z0) || !is_zero(f.zn);
     case 2:
-        return !same(z1, z2) || !is_zero(zn);
+        return !same(f.z1, f.z2) || !is_zero(f.zn);
     case 5:
-        return !same(z1, z2) || !is_zero(z0) || !is_zero(zn);
+        return !same(f.z1, f.z2) || !is_zero(f.z0) || !is_zero(f.zn);
     default:
-        return !same(z1, z2);
+        return !same(f.z1, f.z2);
     }
 }
 
 /* The board's zero sequence, from its record and its feeder's. */
-static inline void zero_sequence(board *b, const board *up, size_t r, uint8_t kind, ohms z0, ohms zn) {
+static inline void zero_sequence(board *b, const board *up, size_t r, record f) {
     b->z0 = (ohms){0, 0};
     b->start = 0;
-    if (kind == 0 || kind == 4) {
-        b->z0 = earthed(z0, zn);
+    if (f.kind == 0 || f.kind == 4) {
+        b->z0 = earthed(f.z0, f.zn);
         b->start = (uint16_t)r;
-    } else if ((kind == 2 || kind == 3) && up->start) {
-        b->z0 = plus(up->z0, earthed(z0, zn)); /* a cable's zn is zero */
+    } else if ((f.kind == 2 || f.kind == 3) && up->start) {
+        b->z0 = plus(up->z0, earthed(f.z0, f.zn)); /* a cable's zn is zero */
         b->start = up->start;
     }
 }
 
-/* Record r, behind r - 1 that are kept: the number of the first rule that it breaks, or 0 and its board. */
-static inline uint8_t judge(board *boards, size_t r, const uint8_t *s) {
+/* 3 */
+static inline int head_wrong(uint16_t volts, uint16_t unit, size_t n) {
+    return volts < 1 || volts > 1000 || unit < 10 || unit > 1000 || n < 1 || n > BOARDS;
+}
+
+/* Record r, behind r - 1 that are kept: the number of the first of 6 to 11 that it breaks, or 0 and its board. */
+static inline uint8_t judge(board *boards, size_t r, record f) {
     static const board none;
-    if (s[0] != 'B' || s[1] != 'D')
-        return 5;
-    if (!formed(s + 2))
+    if (!formed(f.label))
         return 6;
     board *b = &boards[r - 1];
-    b->own = label_at(s + 2);
+    b->own = label_at(f.label);
     if (find(boards, r - 1, b->own))
         return 7;
-    b->feeder = r == 1 ? 0 : find(boards, r - 1, label_at(s + 14));
-    if (r == 1 ? memcmp(s + 14, "            ", 12) != 0 : b->feeder == 0)
+    b->feeder = r == 1 ? 0 : find(boards, r - 1, label_at(f.feeder));
+    if (r == 1 ? memcmp(f.feeder, "            ", 12) != 0 : b->feeder == 0)
         return 8;
-    uint8_t kind = s[26], clock = s[27];
-    if (kind_wrong(r, kind, clock))
+    if (kind_wrong(r, f.kind, f.clock))
         return 9;
-    ohms z1 = ohms_at(s + 28), z2 = ohms_at(s + 32), z0 = ohms_at(s + 36), zn = ohms_at(s + 40);
-    if (impedance_wrong(kind, z1, z2, z0, zn))
+    if (impedance_wrong(f))
         return 10;
     const board *up = b->feeder ? &boards[b->feeder - 1] : &none;
-    b->z1 = plus(up->z1, z1);
-    b->z2 = plus(up->z2, z2);
-    b->turn = (uint16_t)(up->turn + clock);
-    zero_sequence(b, up, r, kind, z0, zn);
+    b->z1 = plus(up->z1, f.z1);
+    b->z2 = plus(up->z2, f.z2);
+    b->turn = (uint16_t)(up->turn + f.clock);
+    zero_sequence(b, up, r, f);
     return over(b->z1, MOST) || over(b->z2, MOST) || over(b->z0, MOST) ? 11 : 0;
 }
 
@@ -87,13 +88,13 @@ static inline ranjupeli_answer read_network(network *w, const uint8_t *s, size_t
     w->volts = u16_at(s + 2);
     w->unit = u16_at(s + 4);
     w->n = u16_at(s + 6);
-    if (w->volts < 1 || w->volts > 1000 || w->unit < 10 || w->unit > 1000 || w->n < 1 || w->n > BOARDS)
+    if (head_wrong(w->volts, w->unit, w->n))
         return refused(3, 0, RANJUPELI_NETWORK, 0, HEAD);
     if (len != HEAD + RECORD * (size_t)w->n)
         return refused(4, 0, RANJUPELI_NETWORK, 0, HEAD);
     for (size_t r = 1; r <= w->n; r++) {
         size_t start = HEAD + RECORD * (r - 1);
-        uint8_t number = judge(w->boards, r, s + start);
+        uint8_t number = s[start] != 'B' || s[start + 1] != 'D' ? 5 : judge(w->boards, r, record_at(s + start));
         if (number)
             return refused(number, (uint16_t)r, RANJUPELI_NETWORK, start, RECORD);
     }

@@ -8,7 +8,7 @@ static int asked_who;
 static const question *asked;
 
 static void call(void) {
-    run_solver(asked_who, asked);
+    run(asked_who, asked);
 }
 
 /* On to the painted stack and back: the old one is kept in a register that a callee saves. */

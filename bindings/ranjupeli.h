@@ -1,15 +1,19 @@
-/* Ranjupeli for C: short circuits of a radial network, answered exactly or refused by the first rule broken.
+/* Ranjupeli for C: short circuits of a radial network, answered exactly or refused by the first rule broken;
+ * and the file of a network, written from its boards or refused by the same rules.
  *
  * Link target/staticlib/libranjupeli.a (`rt staticlib ranjupeli` proves and writes it) into a program for x86-64 Linux.
- * What the function does is proved: crates/ranjupeli/src/lib.rt has its contract, docs/CONTRACTS.md says it in words.
+ * It has two functions, ranjupeli_solve and ranjupeli_write. What they do is proved: crates/ranjupeli/src/lib.rt has
+ * their contracts, docs/CONTRACTS.md says them in words; docs/FORMAT.md explains the fields and what to do about a refusal.
  *
  * Limits, and what the caller answers for (nothing can prove it of C):
- * - x86-64 only. It needs memcpy and memset, and nothing else: no heap, no files, no locale, no state between calls.
- * - It starts no thread and takes no lock. Calls in several threads do not meet, as long as no two share a buffer.
- * - Stack: less than 48 KB below the caller (docs/SPEED.md has the table). Give a thread that calls it 64 KB or more.
- * - No pointer is null, even where its length is 0; the buffer is aligned for int64_t and overlaps neither file.
- * - Any bytes may be lent, of any length. An accepted network has 8 + 44 N bytes, N from 1 to 256; a fault has 20.
- * - The buffer needs 13 + 24 N numbers. A shorter one is refused (19); RANJUPELI_MOST is enough for every network. */
+ * - x86-64 only. They need memcpy and memset, and nothing else: no heap, no files, no locale, no state between calls.
+ * - They start no thread and take no lock. Calls in several threads do not meet, as long as no two share a buffer or an output.
+ * - Stack: less than 48 KB below the caller (docs/SPEED.md has the table). Give a thread that calls them 64 KB or more.
+ * - No pointer is null, even where its length is 0: no boards, no output. Each length is true.
+ * - The buffer is aligned for int64_t and overlaps neither file; the output does not overlap the boards.
+ * - Any bytes and any boards may be lent, of any length. An accepted network has 8 + 44 N bytes, N from 1 to 256; a fault has 20.
+ * - The buffer needs 13 + 24 N numbers. A shorter one is refused (19); RANJUPELI_MOST is enough for every network.
+ * - The output needs 8 + 44 N bytes. A shorter one is refused (20); RANJUPELI_LONGEST is enough for every network. */
 #ifndef RANJUPELI_H
 #define RANJUPELI_H
 #include <stddef.h>
@@ -23,7 +27,12 @@ extern "C" {
 #define RANJUPELI_NUMBERS(n) (13 + 24 * (size_t)(n))
 #define RANJUPELI_MOST RANJUPELI_NUMBERS(256)
 
-/* the numbers of an answer: 0, or the rule that was broken first, in the order in which they are tested */
+/* the bytes of a network file of n boards, and those of the longest */
+#define RANJUPELI_FILE(n) (8 + 44 * (size_t)(n))
+#define RANJUPELI_LONGEST RANJUPELI_FILE(256)
+
+/* the numbers of an answer: 0, or the rule that was broken first, in the order in which they are tested.
+ * ranjupeli_solve gives 0 to 19, ranjupeli_write 0, 3, 6 to 11 and 20. */
 enum {
     RANJUPELI_ACCEPTED = 0,
     RANJUPELI_SHORT_NETWORK = 1,    /* network under 8 bytes */
@@ -44,7 +53,8 @@ enum {
     RANJUPELI_FAULT_PHASE = 16,     /* phase over 2, or kind 0 with phase not 0 */
     RANJUPELI_FAULT_IMPEDANCE = 17, /* part of Zf over 1,365 */
     RANJUPELI_NO_EARTH_RETURN = 18, /* earth fault at a board without earth return */
-    RANJUPELI_SHORT_BUFFER = 19     /* buffer under 13 + 24 N numbers */
+    RANJUPELI_SHORT_BUFFER = 19,    /* buffer under 13 + 24 N numbers */
+    RANJUPELI_SHORT_OUTPUT = 20     /* output shorter than the file */
 };
 
 enum { RANJUPELI_NETWORK = 0, RANJUPELI_FAULT = 1 };
@@ -80,10 +90,67 @@ static inline ranjupeli_bytes ranjupeli_shown(ranjupeli_answer answer, const uin
     return shown;
 }
 
+/* An impedance r + jx, in counts: a count is as many microohms as the unit says. */
+typedef struct {
+    uint16_t r, x;
+} ranjupeli_ohms;
+
+/* what a board is, or hangs on */
+enum {
+    RANJUPELI_SOURCE = 0,          /* a set or a mains connection, star point earthed; only the first board */
+    RANJUPELI_FLOATING_SOURCE = 1, /* a set whose star point floats; only the first board */
+    RANJUPELI_CABLE = 2,           /* a cable, a busbar, a distributor lead */
+    RANJUPELI_STAR_STAR = 3,       /* a transformer star/star, both star points earthed */
+    RANJUPELI_DELTA_STAR = 4,      /* a transformer, delta at the feeder, earthed star at the board */
+    RANJUPELI_BLOCKING = 5         /* a transformer that keeps earth current out on both sides */
+};
+
+/* A board, and the cable or transformer that feeds it. The source stands first, every other board after its feeder. */
+typedef struct {
+    ranjupeli_ohms z1;  /* of the set, cable or transformer, in positive sequence: what its data sheet gives */
+    ranjupeli_ohms z2;  /* in negative sequence: as z1, but for a set */
+    ranjupeli_ohms z0;  /* in zero sequence, with the way back through the protective conductor: often several times z1 */
+    ranjupeli_ohms zn;  /* between star point and earth, entered once; 0 for a plain strap, and for a cable */
+    uint8_t label[12];  /* what is written on it: 1 to 12 visible characters, then spaces; no earlier board has the same */
+    uint8_t feeder[12]; /* the label of the board that feeds it; twelve spaces for the source */
+    uint8_t kind;       /* RANJUPELI_SOURCE to RANJUPELI_BLOCKING */
+    uint8_t clock;      /* the number of a transformer's vector group (Dyn11: 11); 0 for sources, cables and star/star */
+} ranjupeli_board;
+
+#if defined(__cplusplus) && __cplusplus >= 201103L
+static_assert(sizeof(ranjupeli_board) == 42, "the archive's boards are 42 bytes long");
+#elif defined(__STDC_VERSION__) && __STDC_VERSION__ >= 201112L
+_Static_assert(sizeof(ranjupeli_board) == 42, "the archive's boards are 42 bytes long");
+#endif
+
+/* A text as a label, spaces behind it. One of more than twelve characters is not cut, for that could name another board:
+ * it becomes zeros, and so a label of wrong form (6) and no board's feeder (8). */
+static inline void ranjupeli_label(uint8_t label[12], const char *text) {
+    size_t n = 0, i;
+    while (n <= 12 && text[n] != 0)
+        n++;
+    for (i = 0; i < 12; i++)
+        label[i] = (uint8_t)(n > 12 ? 0 : i < n ? text[i] : ' ');
+}
+
+/* Accepted: number 0, place 0 and the file's length. Refused: the number of the rule, the board that breaks it (from 1; 0: none), len = 0. */
+typedef struct {
+    size_t len;
+    uint16_t place;
+    uint8_t number;
+} ranjupeli_written;
+
+/* Accepted, the output begins with the file of these boards: what ranjupeli_solve takes as a network, with N the number of boards.
+ * What lies behind keeps its values. Refused, all of it does. Refused are exactly the boards whose file ranjupeli_solve would refuse, by
+ * the same number and place; then outputs shorter than the file (20). volts: phase to neutral; unit: microohms in a count. */
+ranjupeli_written ranjupeli_write(uint16_t volts, uint16_t unit,
+                                  const ranjupeli_board *boards, size_t boards_len,
+                                  uint8_t *out, size_t out_len);
+
 /* What a number says, for a reader. */
 static inline const char *ranjupeli_sentence(unsigned number) {
     switch (number) {
-    case RANJUPELI_ACCEPTED: return "the network and the fault are answered";
+    case RANJUPELI_ACCEPTED: return "accepted: the fault is answered, or the file is written";
     case RANJUPELI_SHORT_NETWORK: return "the network has under 8 bytes";
     case RANJUPELI_HEAD_MARK: return "the head does not begin with HD";
     case RANJUPELI_HEAD_VALUES: return "the volts, the unit or the number of boards is out of its range";
@@ -103,6 +170,7 @@ static inline const char *ranjupeli_sentence(unsigned number) {
     case RANJUPELI_FAULT_IMPEDANCE: return "a part of the fault's impedance is over 1,365";
     case RANJUPELI_NO_EARTH_RETURN: return "an earth fault is asked at a board without earth return";
     case RANJUPELI_SHORT_BUFFER: return "the buffer has under 13 + 24 N numbers";
+    case RANJUPELI_SHORT_OUTPUT: return "the output is shorter than the file";
     }
     return "no answer has this number";
 }

@@ -1,4 +1,4 @@
-"""The paper (01) a second time, in plain Python with whole numbers only. Written from the paper and not from the project's code:
+"""The paper (01, and R-1 of 02) a second time, in plain Python with whole numbers only. Written from the papers and not from the project's code:
 expected outputs and figures come from here, so that the two can disagree. Nothing in the gate runs it."""
 from math import isqrt
 
@@ -71,31 +71,40 @@ def network(net):
     """head and boards (from index 1 on), or Refused by the first of 1 to 11"""
     if len(net) < 8:
         raise Refused(1, 0, ('network', 0, len(net)))
-    head = ('network', 0, 8)
+    part = ('network', 0, 8)
     if net[:2] != b'HD':
-        raise Refused(2, 0, head)
+        raise Refused(2, 0, part)
     volts, unit, count = u16(net, 2), u16(net, 4), u16(net, 6)
-    if not (1 <= volts <= 1000 and 10 <= unit <= 1000 and 1 <= count <= 256):
-        raise Refused(3, 0, head)
+    if not in_range(volts, unit, count):
+        raise Refused(3, 0, part)
     if len(net) != 8 + 44 * count:
-        raise Refused(4, 0, head)
+        raise Refused(4, 0, part)
     boards = [None]
     for r in range(1, count + 1):
-        boards.append(board(net, r, boards))
+        start = 8 + 44 * (r - 1)
+        b, part = net[start:start + 44], ('network', start, 44)
+        if b[:2] != b'BD':
+            raise Refused(5, r, part)
+        boards.append(judged(decoded(b), r, boards, part))
     return volts, unit, boards
 
 
-def board(net, r, before):
-    start = 8 + 44 * (r - 1)
-    b = net[start:start + 44]
+def in_range(volts, unit, count):
+    return 1 <= volts <= 1000 and 10 <= unit <= 1000 and 1 <= count <= 256
+
+
+def decoded(b):
+    """a record's bytes but for its mark: label, feeder label, kind, clock, and z1, z2, z0, zn"""
+    return b[2:14], b[14:26], b[26], b[27], [(u16(b, 28 + 4 * i), u16(b, 30 + 4 * i)) for i in range(4)]
+
+
+def judged(board, r, before, part):
+    """a decoded board as record r, with its chain and sums, or Refused by the first of 6 to 11"""
+    label, feeder, kind, clock, (z1, z2, z0, zn) = board
 
     def refuse(number):
-        raise Refused(number, r, ('network', start, 44))
+        raise Refused(number, r, part)
 
-    label, feeder, kind, clock = b[2:14], b[14:26], b[26], b[27]
-    z1, z2, z0, zn = ((u16(b, 28 + 4 * i), u16(b, 30 + 4 * i)) for i in range(4))
-    if b[:2] != b'BD':
-        refuse(5)
     if not formed(label):
         refuse(6)
     if any(x['label'] == label for x in before[1:]):
@@ -214,6 +223,24 @@ def answer(net, flt, room):
     return dict(number=0, place=k, n=count, amps=amps, part=('network', 8 + 44 * (k - 1), 44), numbers=numbers)
 
 
+# ---- the writer (02, R-1)
+def write(volts, unit, boards, room):
+    """number, place, the file's length, part, and the file (None where refused); boards are decoded ones, as many as there are"""
+    empty = ('network', 0, 0)
+    try:
+        if not in_range(volts, unit, len(boards)):
+            raise Refused(3, 0, empty)
+        before = [None]
+        for r, board in enumerate(boards, 1):
+            before.append(judged(board, r, before, empty))
+        file = head(volts, unit, len(boards)) + b''.join(laid(*b) for b in boards)
+        if room < len(file):
+            raise Refused(20, 0, empty)
+    except Refused as r:
+        return dict(number=r.number, place=r.place, length=0, part=r.part, file=None)
+    return dict(number=0, place=0, length=len(file), part=empty, file=file)
+
+
 # ---- files written out
 def w16(n):
     return bytes([n & 255, n >> 8])
@@ -227,8 +254,12 @@ def head(volts, unit, n):
     return b'HD' + w16(volts) + w16(unit) + w16(n)
 
 
+def laid(own, feeder, kind, clock, zs):
+    return b'BD' + own + feeder + bytes([kind, clock]) + b''.join(w16(r) + w16(x) for r, x in zs)
+
+
 def record(name, feeder, kind, clock, *zs):
-    return b'BD' + label(name) + label(feeder) + bytes([kind, clock]) + b''.join(w16(r) + w16(x) for r, x in zs)
+    return laid(label(name), label(feeder), kind, clock, zs)
 
 
 def fault(name, kind, p, zf=(0, 0)):

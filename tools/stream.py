@@ -1,6 +1,6 @@
 #!/usr/bin/env python3
-"""Writes crates/batch/stdin and stdout: a short stream of cases, and by the oracle the stream of their answers.
-With a number, writes that many cases to standard output instead, the same ones over and over: a stream to time `batch` with."""
+"""Writes crates/batch/stdin and stdout: a short stream of cases of both entry points, solve and write, and by the oracle the stream of their answers.
+With a number, writes that many cases of solve to standard output instead, the same ones over and over: a stream to time `batch` with."""
 import os
 import struct
 import sys
@@ -18,7 +18,7 @@ THREE = head(230, 1000, 3) + GEN + BOOTH + HALL
 FOUR = head(400, 100, 4) + GEN + BOOTH + HALL + BLOCK
 FULL = 13 + 24 * 3
 SOUND = fault('HALL', 1, 2, (3, 4))
-cases = [
+solving = [
     # each kind of fault; two elements more than there are numbers
     (THREE, fault('GEN', 0, 0), FULL),
     (THREE, fault('BOOTH-WEST-1', 1, 1), FULL + 2),
@@ -43,11 +43,47 @@ cases = [
 ]
 
 
-def asked(net, flt, room):
-    return struct.pack('<3I', room, len(net), len(flt)) + net + flt
+# what is written: volts, unit, boards, bytes of the output. The marks are not BD, for nobody is to look at them
+def board(*fields, mark=b'??', label=None):
+    b = mark + record(*fields)[2:]
+    return b if label is None else b[:2] + label + b[14:]
 
 
-def answered(net, flt, room):
+WGEN, WBOOTH, WHALL = (b'??' + b[2:] for b in (GEN, BOOTH, HALL))
+W3 = [WGEN, WBOOTH, WHALL]
+LONG = 8 + 44 * 3
+MANY = [WGEN] + [board('B%d' % i, 'GEN' if i < 3 else 'B%d' % (i - 2), 2, 0, J(1), J(1), J(1), NONE) for i in range(1, 372)]
+writing = [
+    # sound: exact, longer, one byte short, none
+    (230, 1000, W3, LONG),
+    (1000, 10, W3, LONG + 10),
+    (1, 1000, [board('GEN', '', 1, 0, J(4095), (1, 0), NONE, NONE, mark=b'BD')], 300),
+    (230, 1000, W3, LONG - 1),
+    (230, 1000, W3, 0),
+    # 3: the number of boards, volts, unit
+    (230, 1000, [], 8),
+    (230, 1000, MANY[:256], 8 + 44 * 256),
+    (230, 1000, MANY[:257], 16),
+    (1001, 1000, W3, LONG),
+    (230, 9, W3, LONG - 1),
+    # 6 to 11; where one is broken a later rule is too, or the output is short
+    (230, 1000, [WGEN, WBOOTH, board('HALL', 'NOWHERE', 4, 11, J(20), J(20), J(20), NONE, label=b'H\xc4LL'.ljust(12))], LONG),
+    (230, 1000, [WGEN, WBOOTH, board('GEN', 'NOWHERE', 2, 0, NONE, NONE, NONE, NONE)], LONG + 1),
+    (230, 1000, [board('GEN', 'HALL', 7, 0, J(20), J(20), J(5), J(5)), WHALL], 40),
+    (230, 1000, [WGEN, board('BOOTH-WEST-1', 'GEN', 255, 255, (30, 10), (30, 10), (65535, 30), NONE), WHALL], LONG),
+    (230, 1000, [WGEN, WBOOTH, board('HALL', 'GEN', 4, 11, J(4096), J(4096), J(20), NONE)], LONG),
+    (230, 1000, [WGEN, board('BOOTH-WEST-1', 'GEN', 2, 0, (30, 10), (30, 10), (90, 4076), NONE), WGEN], LONG - 1),
+    # the most of each: boards and output
+    (230, 1000, MANY, 16400),
+    (230, 1000, [WGEN], 16400),
+]
+
+
+def asked_to_solve(net, flt, room):
+    return struct.pack('<4I', 1, room, len(net), len(flt)) + net + flt
+
+
+def solved(net, flt, room):
     a = oracle.solve(net, flt, room)
     written = a['numbers'] or []
     buffer = written + [1000003 * (i + 1) for i in range(len(written), room)]
@@ -59,14 +95,35 @@ def answered(net, flt, room):
     return first + shown + struct.pack('<I%dq' % room, room, *buffer)
 
 
+def asked_to_write(volts, unit, boards, room):
+    boards = b''.join(boards)
+    return struct.pack('<4I', 2, room, len(boards), 4) + boards + struct.pack('<2H', volts, unit)
+
+
+def to_write(volts, unit, boards, room):
+    return oracle.write(volts, unit, [oracle.decoded(b) for b in boards], room)
+
+
+def written(*case):
+    a, room = to_write(*case), case[-1]
+    assert a['part'] == ('network', 0, 0)
+    out = bytes((7 * i + 3) % 256 for i in range(room))
+    out = (a['file'] or b'') + out[a['length']:]
+    return struct.pack('<7I', a['number'], a['place'], a['length'], 1, 0, 0, room) + out
+
+
 if len(sys.argv) > 1:
     for i in range(int(sys.argv[1])):
-        sys.stdout.buffer.write(asked(*cases[i % 13]))
+        sys.stdout.buffer.write(asked_to_solve(*solving[i % 13]))
     sys.exit()
 where = os.path.join(os.path.dirname(os.path.abspath(__file__)), '..', 'crates', 'batch')
+asked = [asked_to_solve(*c) for c in solving] + [asked_to_write(*c) for c in writing]
+answers = [solved(*c) for c in solving] + [written(*c) for c in writing]
 # the last one is cut off in its fault
 with open(os.path.join(where, 'stdin'), 'wb') as f:
-    f.write(b''.join(asked(*c) for c in cases) + asked(THREE, SOUND, FULL)[:-1])
+    f.write(b''.join(asked) + asked_to_solve(THREE, SOUND, FULL)[:-1])
 with open(os.path.join(where, 'stdout'), 'wb') as f:
-    f.write(b''.join(answered(*c) for c in cases) + b'CUT\n')
-print(len(cases), 'cases and one that is cut off;', 'numbers', [oracle.solve(*c)['number'] for c in cases])
+    f.write(b''.join(answers) + b'CUT\n')
+print(len(solving), 'cases of solve:', [oracle.solve(*c)['number'] for c in solving])
+print(len(writing), 'cases of write:', [to_write(*c)['number'] for c in writing])
+print('and one that is cut off')

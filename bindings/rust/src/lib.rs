@@ -1,7 +1,8 @@
-//! Ranjupeli for Rust: short circuits of a radial network, answered exactly or refused by the first rule broken.
+//! Ranjupeli for Rust: short circuits of a radial network, answered exactly or refused by the first rule broken ([`solve`]);
+//! and the file of a network, written from its boards or refused by the same rules ([`write`]).
 //!
-//! A safe function over `libranjupeli.a`, whose code is proved. Links on x86-64 Linux alone. It allocates nothing, keeps
-//! nothing between calls and starts no thread; it takes less than 48 KB of stack, so give a thread that calls it 64 KB or more.
+//! Two safe functions over `libranjupeli.a`, whose code is proved. Links on x86-64 Linux alone. They allocate nothing, keep
+//! nothing between calls and start no thread; they take less than 48 KB of stack, so give a thread that calls them 64 KB or more.
 
 /// The numbers that a buffer needs for `boards` boards.
 pub const fn numbers(boards: usize) -> usize {
@@ -11,7 +12,16 @@ pub const fn numbers(boards: usize) -> usize {
 /// The numbers that a buffer needs for the largest network.
 pub const MOST: usize = numbers(256);
 
+/// The bytes of a network file of `boards` boards.
+pub const fn file(boards: usize) -> usize {
+    8 + 44 * boards
+}
+
+/// The bytes of the longest network file.
+pub const LONGEST: usize = file(256);
+
 /// What an answer's number says: 0, or the rule that was broken first, in the order in which they are tested.
+/// [`solve`] gives 0 to 19, [`write`] 0, 3, 6 to 11 and 20.
 #[non_exhaustive]
 #[repr(u8)]
 #[derive(Clone, Copy, Debug, PartialEq, Eq, Hash)]
@@ -55,10 +65,12 @@ pub enum Outcome {
     NoEarthReturn = 18,
     /// Buffer under 13 + 24 N numbers.
     ShortBuffer = 19,
+    /// Output shorter than the file.
+    ShortOutput = 20,
 }
 
 // By number, from 0.
-const OUTCOMES: [Outcome; 20] = [
+const OUTCOMES: [Outcome; 21] = [
     Outcome::Accepted,
     Outcome::ShortNetwork,
     Outcome::HeadMark,
@@ -79,6 +91,7 @@ const OUTCOMES: [Outcome; 20] = [
     Outcome::FaultImpedance,
     Outcome::NoEarthReturn,
     Outcome::ShortBuffer,
+    Outcome::ShortOutput,
 ];
 
 impl Outcome {
@@ -90,7 +103,7 @@ impl Outcome {
     /// What it says, for a reader.
     pub const fn sentence(self) -> &'static str {
         match self {
-            Outcome::Accepted => "the network and the fault are answered",
+            Outcome::Accepted => "accepted: the fault is answered, or the file is written",
             Outcome::ShortNetwork => "the network has under 8 bytes",
             Outcome::HeadMark => "the head does not begin with HD",
             Outcome::HeadValues => "the volts, the unit or the number of boards is out of its range",
@@ -110,6 +123,7 @@ impl Outcome {
             Outcome::FaultImpedance => "a part of the fault's impedance is over 1,365",
             Outcome::NoEarthReturn => "an earth fault is asked at a board without earth return",
             Outcome::ShortBuffer => "the buffer has under 13 + 24 N numbers",
+            Outcome::ShortOutput => "the output is shorter than the file",
         }
     }
 }
@@ -134,6 +148,82 @@ pub struct Answer {
     pub len: usize,
 }
 
+/// An impedance r + jx, in counts: a count is as many microohms as the unit says.
+#[repr(C)]
+#[derive(Clone, Copy, Debug, Default, PartialEq, Eq, Hash)]
+pub struct Ohms {
+    pub r: u16,
+    pub x: u16,
+}
+
+/// What a board is, or hangs on.
+pub mod kind {
+    /// A set or a mains connection, star point earthed; only the first board.
+    pub const SOURCE: u8 = 0;
+    /// A set whose star point floats; only the first board.
+    pub const FLOATING_SOURCE: u8 = 1;
+    /// A cable, a busbar, a distributor lead.
+    pub const CABLE: u8 = 2;
+    /// A transformer star/star, both star points earthed.
+    pub const STAR_STAR: u8 = 3;
+    /// A transformer, delta at the feeder, earthed star at the board.
+    pub const DELTA_STAR: u8 = 4;
+    /// A transformer that keeps earth current out on both sides.
+    pub const BLOCKING: u8 = 5;
+}
+
+/// A board, and the cable or transformer that feeds it. The source stands first, every other board after its feeder.
+#[repr(C)]
+#[derive(Clone, Copy, Debug, Default, PartialEq, Eq, Hash)]
+pub struct Board {
+    /// Of the set, cable or transformer, in positive sequence: what its data sheet gives.
+    pub z1: Ohms,
+    /// In negative sequence: as z1, but for a set.
+    pub z2: Ohms,
+    /// In zero sequence, with the way back through the protective conductor: often several times z1.
+    pub z0: Ohms,
+    /// Between star point and earth, entered once; 0 for a plain strap, and for a cable.
+    pub zn: Ohms,
+    /// What is written on it ([`label`]); no earlier board has the same.
+    pub label: [u8; 12],
+    /// The label of the board that feeds it; `label("")` for the source.
+    pub feeder: [u8; 12],
+    /// One of [`kind`].
+    pub kind: u8,
+    /// The number of a transformer's vector group (Dyn11: 11); 0 for sources, cables and star/star.
+    pub clock: u8,
+}
+
+// As the archive lays them out.
+const _: () = assert!(std::mem::size_of::<Board>() == 42 && std::mem::align_of::<Board>() == 2);
+const _: () = assert!(std::mem::offset_of!(Board, label) == 16 && std::mem::offset_of!(Board, feeder) == 28 && std::mem::offset_of!(Board, kind) == 40);
+
+/// A text as a label: 1 to 12 visible characters, spaces behind them. One of more than twelve bytes is not cut, for that could
+/// name another board: it becomes zeros, and so a label of wrong form (6) and no board's feeder (8).
+pub const fn label(text: &str) -> [u8; 12] {
+    let text = text.as_bytes();
+    if text.len() > 12 {
+        return [0; 12];
+    }
+    let mut label = [b' '; 12];
+    let mut i = 0;
+    while i < text.len() {
+        label[i] = text[i];
+        i += 1;
+    }
+    label
+}
+
+/// Accepted: `number` 0, place 0 and the file's length.
+/// Refused: the number of the rule, the board that breaks it (from 1; 0: none), `len` = 0.
+#[repr(C)]
+#[derive(Clone, Copy, Debug, PartialEq, Eq)]
+pub struct Written {
+    pub len: usize,
+    pub place: u16,
+    pub number: u8,
+}
+
 // As the archive lays it out.
 #[repr(C)]
 struct Reply {
@@ -149,6 +239,7 @@ struct Reply {
 #[link(name = "ranjupeli", kind = "static")]
 extern "C" {
     fn ranjupeli_solve(network: *const u8, network_len: usize, fault: *const u8, fault_len: usize, buffer: *mut i64, buffer_len: usize) -> Reply;
+    fn ranjupeli_write(volts: u16, unit: u16, boards: *const Board, boards_len: usize, out: *mut u8, out_len: usize) -> Written;
 }
 
 /// Answers in the buffer, which needs `numbers(N)` places, or refuses and writes nothing. Any bytes and any buffer may be lent.
@@ -163,6 +254,22 @@ pub fn solve(network: &[u8], fault: &[u8], buffer: &mut [i64]) -> Answer {
         whose: if r.owner == 0 { Lent::Network } else { Lent::Fault },
         start: r.start,
         len: r.len,
+    }
+}
+
+/// Writes the file of these boards, which [`solve`] takes as a network, into the first `file(N)` bytes of the output, N being the
+/// number of boards; or refuses and writes nothing. Refused are exactly the boards whose file `solve` would refuse, by the same
+/// number and place; then outputs shorter than the file. Any boards and any output may be lent.
+/// `volts`: phase to neutral; `unit`: microohms in a count.
+pub fn write(volts: u16, unit: u16, boards: &[Board], out: &mut [u8]) -> Written {
+    // Safe: as above; a board has no bytes between its fields, and the output is lent to this call alone.
+    unsafe { ranjupeli_write(volts, unit, boards.as_ptr(), boards.len(), out.as_mut_ptr(), out.len()) }
+}
+
+impl Written {
+    /// What the number says. The archive gives no number that has no outcome.
+    pub fn outcome(&self) -> Option<Outcome> {
+        Outcome::from_number(self.number)
     }
 }
 

@@ -6,6 +6,7 @@ ghost use Rattle.paper.specs.declared.Lent.the-variants.{FaultBytes};
 ghost use Rattle.ask.specs.Question.{refusedQuestion};
 ghost use Rattle.ask.specs.Steps.{unreadBy, askedAt};
 use crate::rules::broken;
+use file::field::FT;
 use file::field::u16_at;
 use paper::Fault;
 use paper::Lent;
@@ -13,9 +14,6 @@ use paper::Ohms;
 use paper::Outcome;
 use paper::Part;
 use paper::Refusal;
-
-// The fault's mark.
-const FT: u16 = 0x5446;
 
 // The fault and its board's place are those of the bytes where they are accepted, and zeros where they are refused.
 pub struct Question {

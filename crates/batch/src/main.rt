@@ -1,28 +1,36 @@
 // Answers many cases from one stream: standard input to standard output, every number little-endian.
-// A case is three numbers of four bytes (the elements of its buffer, the bytes of its network, the bytes of its fault), the network and the fault.
-// Its answer: number, place, N (four bytes each), amps (eight), whose bytes are shown (1 network, 2 fault), where they start, how many they are (four each), these bytes themselves,
+//
+// A case is four numbers of four bytes: which entry point it asks (1 solve, 2 write), the room that it lends, the bytes of its first part, the bytes of its second part; then the two parts.
+//     entry   room                     first part                                                             second part
+//     1       elements of the buffer   the network                                                            the fault
+//     2       bytes of the output      the boards, 44 bytes each as a board's record, the mark not looked at  volts and unit, two bytes each
+// What a case may say at most stands in solving.rt and writing.rt, and what its buffer or its output holds before it in stream/specs/Case.antt.
+//
+// An answer to 1: number, place, N (four bytes each), amps (eight), whose bytes are shown (1 network, 2 fault), where they start, how many they are (four each), these bytes themselves,
 // how many elements the buffer has (four), and all of these elements (eight each).
-// At the end of the input END and a line's end; where a case is cut off, or says a length over its limit, CUT and a line's end; after BUDGET cases BUDG.
+// An answer to 2: number, place, the file's length (four bytes each), whose bytes are shown, where they start, how many they are (four each), how many bytes the output has (four), and all of these bytes.
+//
+// At the end of the input END and a line's end; where a case is cut off, asks another entry point, or says a length that it may not have, CUT and a line's end; after BUDGET cases BUDG.
+mod solving;
+mod writing;
+
 ghost use mathlib.Core.Path.{_≡_};
-ghost use Prim.Native.Nat.{_+_, _*_, _≤_};
+ghost use Prim.Native.Nat.{_≤_};
 ghost use lib.ListN.{length};
-ghost use Rattle.stream.specs.Case.{marks};
-ghost use Rattle.decimal.specs.Wrote.{Wrote};
-ghost use Rattle.paper.specs.Answer.{verdict, written};
-ghost use Rattle.stream.specs.Layout.{bytesOf};
-ghost use Rattle.verdict.specs.Shown.{shownBytes};
 use libc::STDERR_FILENO;
 use libc::STDIN_FILENO;
 use libc::STDOUT_FILENO;
+use stream::case::Case;
 
 // Every run ends, whoever feeds it.
 const BUDGET: u32 = 1000000;
 
-const ROOM: usize = 6400;
+// The bytes of a case's four numbers.
+const NUMBERS: usize = 16;
 
-const NETWORK: usize = 16400;
+const SOLVE: usize = 1;
 
-const FAULT: usize = 64;
+const WRITE: usize = 2;
 
 // Why a run ends.
 enum End {
@@ -31,27 +39,34 @@ enum End {
     Budget,
 }
 
-// What is lent again for every case: a case's three numbers, its network and its fault, its buffer, and its answer's bytes.
+// What is lent again for every case: its four numbers, its two parts, the buffer of one that solves, the output of one that writes, and its answer's bytes.
 // The contracts give only the lengths, which lending needs.
-fn three() -> [u8; 12]
-    ensures { λ r. ⌜ 12 ≡ length r ⌝ }
+fn four() -> [u8; 16]
+    ensures { λ r. ⌜ 16 ≡ length r ⌝ }
 {
-    [0; 12]
+    [0; 16]
 }
 
+// The longest network and the longest fault. Boards to be written, and volts and unit, are shorter.
 fn parts() -> [u8; 16464]
     ensures { λ r. ⌜ 16464 ≡ length r ⌝ }
 {
     [0; 16464]
 }
 
-fn numbers() -> [i64; 6400]
+fn elements() -> [i64; 6400]
     ensures { λ r. ⌜ 6400 ≡ length r ⌝ }
 {
     [0; 6400]
 }
 
-// 36 + NETWORK + 8 ROOM: a part that is shown is no longer than the network or the fault.
+fn output() -> [u8; 16400]
+    ensures { λ r. ⌜ 16400 ≡ length r ⌝ }
+{
+    [0; 16400]
+}
+
+// An answer of `solve` with the longest network shown and the largest buffer, 36 + 16400 + 8 * 6400; one of `write` is shorter.
 fn page() -> [u8; 67636]
     ensures { λ r. ⌜ 67636 ≡ length r ⌝ }
 {
@@ -68,64 +83,63 @@ fn say(text: &[u8]) {
     }
 }
 
-// All that the program does between reading and writing.
-fn answer<'a>(out: &mut [u8], net: &'a [u8], flt: &'a [u8], buffer: &mut [i64]) -> usize
-    requires { ⌜ length (now net) ≤ 16400 ⌝ }
-    requires { ⌜ length (now flt) ≤ 64 ⌝ }
-    requires { ⌜ length (now buffer) ≤ 6400 ⌝ }
-    requires { ⌜ 36 + 16400 + 8 * length (now buffer) ≤ length (now out) ⌝ }
-    ensures { λ r. ⌜ Wrote 0 (let a = verdict (now (net .entry)) (now (flt .entry)) (length (now (buffer .entry))) in bytesOf a (shownBytes (now (net .entry)) (now (flt .entry)) (a .part)) (written (now (net .entry)) (now (flt .entry)) (marks (length (now (buffer .entry)))))) (now (out .entry)) (now (out .exit)) r ⌝ }
+// The two parts of a case, e bytes together: whether they were all there.
+pub(crate) fn read(parts: &mut [u8], e: usize) -> bool
+    requires { ⌜ e ≤ length (now parts) ⌝ }
 {
-    stream::case::mark(buffer);
-    let given = solve::solve(net, flt, buffer);
-    let part = given.part;
-    let bytes = verdict::shown::shown(net, flt, part);
-    stream::put_answer(out, 0, given, bytes, buffer)
+    let got = io::read_full(STDIN_FILENO, &mut parts[0..e]);
+    e <= got
 }
 
-// One write for a case.
-fn reply<'a>(out: &mut [u8], net: &'a [u8], flt: &'a [u8], buffer: &mut [i64]) -> bool
-    requires { ⌜ length (now net) ≤ 16400 ⌝ }
-    requires { ⌜ length (now flt) ≤ 64 ⌝ }
-    requires { ⌜ length (now buffer) ≤ 6400 ⌝ }
-    requires { ⌜ 36 + 16400 + 8 * length (now buffer) ≤ length (now out) ⌝ }
-{
-    let end = answer(out, net, flt, buffer);
-    io::write_all(STDOUT_FILENO, &out[..end])
-}
-
-// Whether the case was whole, and answered.
-fn case(head: &[u8], parts: &mut [u8], buffer: &mut [i64], out: &mut [u8]) -> bool
-    requires { ⌜ 12 ≡ length (now head) ⌝ }
+// How many bytes the answer has. None: the case is not whole, or is none that is answered here.
+fn answer(
+    asked: Case,
+    parts: &mut [u8],
+    buffer: &mut [i64],
+    file: &mut [u8],
+    out: &mut [u8],
+) -> usize
     requires { ⌜ 16464 ≡ length (now parts) ⌝ }
     requires { ⌜ 6400 ≡ length (now buffer) ⌝ }
+    requires { ⌜ 16400 ≡ length (now file) ⌝ }
+    requires { ⌜ 67636 ≡ length (now out) ⌝ }
+    ensures { λ r. ⌜ r ≤ 67636 ⌝ }
+{
+    let entry = asked.entry;
+    match entry {
+        SOLVE => solving::case(asked, parts, buffer, out),
+        WRITE => writing::case(asked, parts, file, out),
+        _ => 0,
+    }
+}
+
+// One write for a case. Whether it was whole, and its answer written.
+fn case(head: &[u8], parts: &mut [u8], buffer: &mut [i64], file: &mut [u8], out: &mut [u8]) -> bool
+    requires { ⌜ 16 ≡ length (now head) ⌝ }
+    requires { ⌜ 16464 ≡ length (now parts) ⌝ }
+    requires { ⌜ 6400 ≡ length (now buffer) ⌝ }
+    requires { ⌜ 16400 ≡ length (now file) ⌝ }
     requires { ⌜ 67636 ≡ length (now out) ⌝ }
 {
     let asked = stream::case::case_of(head);
-    let room = asked.room;
-    let n = asked.net;
-    let m = asked.flt;
-    if ROOM < room {
+    let end = answer(asked, parts, buffer, file, out);
+    if end == 0 {
         return false;
     }
-    if NETWORK < n {
-        return false;
-    }
-    if FAULT < m {
-        return false;
-    }
-    let e = n + m;
-    let got = io::read_full(STDIN_FILENO, &mut parts[0..e]);
-    if got < e {
-        return false;
-    }
-    reply(out, &parts[0..n], &parts[n..e], &mut buffer[0..room])
+    io::write_all(STDOUT_FILENO, &out[..end])
 }
 
-fn run(head: &mut [u8], parts: &mut [u8], buffer: &mut [i64], out: &mut [u8]) -> End
-    requires { ⌜ 12 ≡ length (now head) ⌝ }
+fn run(
+    head: &mut [u8],
+    parts: &mut [u8],
+    buffer: &mut [i64],
+    file: &mut [u8],
+    out: &mut [u8],
+) -> End
+    requires { ⌜ 16 ≡ length (now head) ⌝ }
     requires { ⌜ 16464 ≡ length (now parts) ⌝ }
     requires { ⌜ 6400 ≡ length (now buffer) ⌝ }
+    requires { ⌜ 16400 ≡ length (now file) ⌝ }
     requires { ⌜ 67636 ≡ length (now out) ⌝ }
 {
     let mut done: u32 = 0;
@@ -134,10 +148,10 @@ fn run(head: &mut [u8], parts: &mut [u8], buffer: &mut [i64], out: &mut [u8]) ->
         if got == 0 {
             return End::Input;
         }
-        if got < 12 {
+        if got < NUMBERS {
             return End::Cut;
         }
-        if !case(head, parts, buffer, out) {
+        if !case(head, parts, buffer, file, out) {
             return End::Cut;
         }
         done += 1;
@@ -146,11 +160,12 @@ fn run(head: &mut [u8], parts: &mut [u8], buffer: &mut [i64], out: &mut [u8]) ->
 }
 
 fn main() {
-    let mut head = three();
+    let mut head = four();
     let mut space = parts();
-    let mut buffer = numbers();
+    let mut buffer = elements();
+    let mut file = output();
     let mut out = page();
-    let end = run(&mut head, &mut space, &mut buffer, &mut out);
+    let end = run(&mut head, &mut space, &mut buffer, &mut file, &mut out);
     match end {
         End::Input => say(b"END\n"),
         End::Cut => say(b"CUT\n"),

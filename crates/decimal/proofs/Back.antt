@@ -6,7 +6,8 @@ use native.Mathlib.Omega.{arith}
 use lib.IntN.{ℤ, pos, negsuc}
 use mir.Syntax.{w64}
 use mir.Val.{SFits}
-use Rattle.decimal.specs.Little.{little, wordOf}
+use Rattle.lemmas.specs.Little.{little}
+use Rattle.decimal.specs.Word.{wordOf}
 
 -- ---- a number
 -- of some bytes, the lowest first

@@ -10,7 +10,7 @@ use mir.Val.{SFits}
 use mir.Facts.{toZ-ofZ}
 use borrow.Author.Tests.{ltb-true}
 use Rattle.lemmas.proofs.Words.{kept}
-use Rattle.decimal.specs.Little.{wordOf}
+use Rattle.decimal.specs.Word.{wordOf}
 
 -- ---- as the code tests it
 down : (z : ℤ) → ltZ z (pos 0) ≡ true → (1 ≤ natAbs z) × (18446744073709551615 - (natAbs z - 1) ≡ wordOf z)

@@ -7,7 +7,8 @@ use base.Fml.{Lft}
 use denote.Ref.{RefT}
 use Rattle.lemmas.proofs.RuledOut.{_↛_, RuledOut, ever, by-equation, lent}
 use Rattle.decimal.specs.Decimal.{decimal, signed, row, Decimal·open}
-use Rattle.decimal.specs.Little.{little, wordOf}
+use Rattle.lemmas.specs.Little.{little}
+use Rattle.decimal.specs.Word.{wordOf}
 use Rattle.decimal.proofs.Told.{bytes, dots, leaves, room, by-text, by-room}
 use Rattle.decimal.proofs.put_byte.Reads as put-byte
 use Rattle.decimal.proofs.put_bytes.Reads as put-bytes
@@ -17,6 +18,7 @@ use Rattle.decimal.proofs.put_number.Reads as put-number
 use Rattle.decimal.proofs.row.put_field.Reads as put-field
 use Rattle.decimal.proofs.row.put_pair.Reads as put-pair
 use Rattle.decimal.proofs.row.put_row.Reads as put-row
+use Rattle.decimal.proofs.little.put_two.Reads as put-two
 use Rattle.decimal.proofs.little.put_four.Reads as put-four
 use Rattle.decimal.proofs.little.put_eight.Reads as put-eight
 use Rattle.decimal.proofs.little.word.Reads as word
@@ -72,6 +74,13 @@ module _ (κ : Lft) where
       ∷ [])
   unfolding Decimal·open
   put-pair-not = by-room (λ b. row (pos (b .0) ∷ pos (b .1 .0) ∷ [])) tt tt
+
+  pub put-two-not : RuledOut (put-two.Pre (κ, tt)) (leaves (put-two.Post (κ, tt))) (
+      (dots 2, (0, (0x4241, tt))) ↛ (2, bytes "BA")  -- high_byte_first
+      ∷ (dots 2, (0, (0x4241, tt))) ↛ (2, bytes "AA")  -- low_byte_twice
+      ∷ [])
+  unfolding little
+  put-two-not = by-room (λ b. little 2 (b .0)) tt tt
 
   pub put-four-not : RuledOut (put-four.Pre (κ, tt)) (leaves (put-four.Post (κ, tt))) (
       (dots 4, (0, (0x44434241, tt))) ↛ (4, bytes "ACCD")  -- second_byte_lost

@@ -1,3 +1,3 @@
 pub mod Decimal
-pub mod Little
+pub mod Word
 pub mod Wrote

@@ -9,7 +9,7 @@ ghost use lib.IntN.{natAbs};
 ghost use Rattle.decimal.specs.Decimal.{decimal, signed};
 ghost use Rattle.decimal.specs.Wrote.{Room, Wrote};
 
-pub(crate) fn put_byte(out: &mut [u8], at: usize, b: u8) -> usize
+pub fn put_byte(out: &mut [u8], at: usize, b: u8) -> usize
     requires { ⌜ Room at (b ∷ []) (now out) ⌝ }
     ensures { λ r. ⌜ Wrote at (b ∷ []) (now (out .entry)) (now (out .exit)) r ⌝ }
 {

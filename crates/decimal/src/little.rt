@@ -2,8 +2,20 @@
 // Each `put_..` writes from a place on and returns the place behind.
 ghost use mathlib.Core.Path.{_≡_};
 ghost use Rattle.decimal.specs.Wrote.{Room, Wrote};
-ghost use Rattle.decimal.specs.Little.{little, wordOf};
+ghost use Rattle.lemmas.specs.Little.{little};
+ghost use Rattle.decimal.specs.Word.{wordOf};
 use crate::magnitude;
+
+// Both bytes. Written out, so that they become one store.
+pub fn put_two(out: &mut [u8], at: usize, n: u16) -> usize
+    requires { ⌜ Room at (little 2 n) (now out) ⌝ }
+    ensures { λ r. ⌜ Wrote at (little 2 n) (now (out .entry)) (now (out .exit)) r ⌝ }
+{
+    let n1 = n / 256;
+    out[at] = (n % 256) as u8;
+    out[at + 1] = (n1 % 256) as u8;
+    at + 2
+}
 
 // The four low bytes. Written out, so that they become one store.
 pub fn put_four(out: &mut [u8], at: usize, n: u64) -> usize

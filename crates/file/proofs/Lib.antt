@@ -1,2 +1,2 @@
-mod Decoded
+pub mod Decoded
 mod RuledOut

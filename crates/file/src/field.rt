@@ -11,6 +11,13 @@ use paper::Ohms;
 // The byte that closes a label.
 pub const SPACE: u8 = 0x20;
 
+// The marks of a head, a board and a fault: two letters, the first in the low byte.
+pub const HD: u16 = 0x4448;
+
+pub const BD: u16 = 0x4442;
+
+pub const FT: u16 = 0x5446;
+
 pub fn pair(low: u8, high: u8) -> u16
     ensures { λ r. ⌜ r ≡ low + 256 * high ⌝ }
 {

@@ -15,7 +15,7 @@ use Rattle.paper.specs.Bytes.{within}
 use Rattle.paper.specs.File.{markOf, HD, BD, FT, headOf, headSize, boardOf, boardSize, faultOf, records, recordsOf, decoded, boardsOf}
 use Rattle.paper.specs.Chain.{Boards, placeOf, unearthed}
 use Rattle.paper.specs.Rows.{test, first}
-use Rattle.paper.specs.Refusal.{theRecord, headRanges, headRows, boardTests, recordRefusal, recordsRefusal, networkRefusal, phaseWrong, earthMissing, answerSize, faultRows, refusal}
+use Rattle.paper.specs.Refusal.{theRecord, headRanges, headRows, boardTests, recordRefusal, inOrder, recordsRefusal, networkRefusal, phaseWrong, earthMissing, answerSize, faultRows, refusal}
 use Rattle.lemmas.proofs.Bools.{both, neither, same-by}
 use Rattle.paper.specs.Bounds.{AtMost}
 use Rattle.follows.proofs.Impedance.{not-over}
@@ -49,7 +49,7 @@ record-tested before s e =
     (same-by (markOf s) BD (c .0), c .1)
 
 pub records-sound : (before : Boards) (recs : List (List ℕ)) → Sound before → recordsRefusal before recs ≡ none → Sound (before ++ decoded recs)
-unfolding recordsRefusal decoded
+unfolding inOrder decoded
 records-sound before [] s e = rw append-nil s
 records-sound before (x ∷ recs) s e =
     let (e1, e2) = then-none (recordRefusal before x) (recordsRefusal (before ++ (boardOf x ∷ [])) recs) e in

@@ -8,7 +8,7 @@ use Rattle.paper.specs.declared.Part.{Part}
 use Rattle.paper.specs.declared.Refusal.{Refusal}
 use Rattle.paper.specs.Rows.{Test, test, Row, row, rowsAt, first, _then_}
 
-some-none : {r : Refusal} → some r ≡ none → ⊥
+pub some-none : {r : Refusal} → some r ≡ none → ⊥
 some-none e = subst Is e tt
   where
     Is : Option Refusal → Type 0

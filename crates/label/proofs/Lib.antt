@@ -2,8 +2,10 @@ pub mod FromTheBack
 mod Same
 pub mod PlacesLaws
 mod Filled
+pub mod Apart
+pub mod BoardTable
 mod PlacesNumbers
-mod Rest
-mod Front
+pub mod Rest
+pub mod Front
 mod Calls
 mod RuledOut

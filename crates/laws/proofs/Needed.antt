@@ -18,7 +18,7 @@ use Rattle.paper.specs.Chain.{feederOf, zeroOf, unearthed, term1, term2}
 use Rattle.paper.specs.Fault.{nilN, numOf, seq}
 use Rattle.paper.specs.Phase.{Asked, asked, theD, shows}
 use Rattle.paper.specs.Answer.{verdict, paper}
-use Rattle.paper.proofs.Written.{head, bd, ft, Written·open}
+use Rattle.paper.proofs.Typed.{head, bd, ft, Typed·open}
 use Rattle.laws.specs.Values.{Values, answers, SameValues}
 use Rattle.laws.specs.Connection.{Condition, Connected}
 use Rattle.laws.specs.Laws.{Ohm0, above, Laws}
@@ -84,23 +84,23 @@ abbrev pub q : Asked
 q = asked net flt
 
 pub is-accepted : verdict net flt 37 .number ≡ 0
-unfolding paper Written·open net flt
+unfolding paper Typed·open net flt
 is-accepted = refl
 
 one-board : length (q .boards) ≡ 1
-unfolding paper Written·open net flt
+unfolding paper Typed·open net flt
 one-board = refl
 
 unearthed-there : unearthed (q .boards) 1 ≡ true
-unfolding paper Written·open net flt
+unfolding paper Typed·open net flt
 unearthed-there = refl
 
 none-there : zeroOf (q .boards) 1 ≡ none
-unfolding paper Written·open net flt
+unfolding paper Typed·open net flt
 none-there = refl
 
 clear-of-earth : q .fault .kind ≡ 0
-unfolding paper Written·open net flt
+unfolding paper Typed·open net flt
 clear-of-earth = refl
 
 -- its answers, but for a zero-sequence voltage of 1

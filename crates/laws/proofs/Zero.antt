@@ -12,7 +12,7 @@ use Rattle.paper.specs.declared.Refusal.{Refusal}
 use Rattle.paper.specs.File.{boardOf, recordsOf, boardsOf}
 use Rattle.paper.specs.Chain.{Boards}
 use Rattle.paper.specs.Rows.{Test, test, Row, row, rowsAt, first, _then_}
-use Rattle.paper.specs.Refusal.{theRecord, headRows, boardTests, recordRefusal, recordsRefusal, networkRefusal, faultRows, refusal}
+use Rattle.paper.specs.Refusal.{theRecord, headRows, boardTests, recordRefusal, inOrder, recordsRefusal, networkRefusal, faultRows, refusal}
 use Rattle.paper.specs.Phase.{asked}
 use Rattle.paper.specs.Answer.{refused, answer, verdict}
 
@@ -52,7 +52,7 @@ record-numbered before s =
     first-numbered _ (rows-numbered (suc (length before)) (theRecord (suc (length before))) _ (lit≤ tt, (lit≤ tt, (lit≤ tt, (lit≤ tt, (lit≤ tt, (lit≤ tt, (lit≤ tt, tt))))))))
 
 records-numbered : (before : Boards) (recs : List (List ℕ)) → Numbered (recordsRefusal before recs)
-unfolding recordsRefusal
+unfolding inOrder
 records-numbered before [] = tt
 records-numbered before (s ∷ recs) = then-numbered (recordRefusal before s) (recordsRefusal (before ++ (boardOf s ∷ [])) recs) (record-numbered before s) (records-numbered (before ++ (boardOf s ∷ [])) recs)
 

@@ -1,4 +1,5 @@
--- The three definitions of this crate that contracts cite. The rest of the crate is proof (proofs/Lib.antt).
+-- The definitions of this crate that contracts cite. The rest of the crate is proof (proofs/Lib.antt).
 pub mod Small
 pub mod Over
 pub mod Table
+pub mod Little

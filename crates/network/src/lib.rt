@@ -4,6 +4,7 @@ ghost use Rattle.paper.specs.Bytes.{part};
 ghost use Rattle.paper.specs.declared.Lent.the-variants.{NetworkBytes};
 ghost use Rattle.network.specs.Network.{refusedNetwork, networkOf, headNumber};
 use file::bytes::head_of;
+use file::field::HD;
 use file::field::u16_at;
 use file::head::head_wrong;
 use file::table::decode;
@@ -18,9 +19,6 @@ use paper::Part;
 use paper::Refusal;
 use records::judge;
 use records::sums::no_node;
-
-// The head's mark.
-const HD: u16 = 0x4448;
 
 // The head and the tables are those of the network where it is accepted, and empty where it is refused.
 pub struct Network {
@@ -95,7 +93,7 @@ pub fn read(net: &[u8]) -> Network
     let n = head.boards as usize;
     let boards = decode(net, n);
     let places = lookup_all(boards, n);
-    let judged = judge(net, n, boards, places);
+    let judged = judge(net, n, places);
     let number = judged.number;
     let place = judged.place;
     if number != 0 {

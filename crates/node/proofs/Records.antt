@@ -13,15 +13,15 @@ use Rattle.paper.specs.Rows.{_then_}
 use Rattle.paper.specs.Bytes.{u16At}
 use Rattle.paper.specs.File.{markOf, headOf, boardOf, records, recordsOf, decoded, boardsOf}
 use Rattle.paper.specs.Chain.{Boards, noBoard}
-use Rattle.paper.specs.Refusal.{recordRefusal, recordsRefusal}
+use Rattle.paper.specs.Refusal.{recordRefusal, inOrder, recordsRefusal}
 
 -- ---- where a record stands
-records-length : (n : ℕ) (s : List ℕ) → length (records n s) ≡ n
+pub records-length : (n : ℕ) (s : List ℕ) → length (records n s) ≡ n
 unfolding records
 records-length zero s = refl
 records-length (suc n) s = ap suc (records-length n (drop 44 s))
 
-records-at : (n : ℕ) (s : List ℕ) (i : ℕ) → i < n → getD (records n s) i [] ≡ take 44 (drop (44 * i) s)
+pub records-at : (n : ℕ) (s : List ℕ) (i : ℕ) → i < n → getD (records n s) i [] ≡ take 44 (drop (44 * i) s)
 unfolding records
 records-at zero s i h = absurd (omega arith)
 records-at (suc n) s zero h = refl
@@ -29,12 +29,12 @@ records-at (suc n) s (suc i) h =
     let e : 44 + 44 * i ≡ 44 * suc i = omega arith in
     records-at n (drop 44 s) i (omega arith) ∙ ap (take 44) (drop-drop (44 * i) 44 s ∙ ap (λ (m : ℕ). drop m s) e)
 
-decoded-length : (recs : List (List ℕ)) → length (decoded recs) ≡ length recs
+pub decoded-length : (recs : List (List ℕ)) → length (decoded recs) ≡ length recs
 unfolding decoded
 decoded-length [] = refl
 decoded-length (s ∷ recs) = ap suc (decoded-length recs)
 
-decoded-at : (d : Board) (recs : List (List ℕ)) (i : ℕ) → i < length recs → getD (decoded recs) i d ≡ boardOf (getD recs i [])
+pub decoded-at : (d : Board) (recs : List (List ℕ)) (i : ℕ) → i < length recs → getD (decoded recs) i d ≡ boardOf (getD recs i [])
 unfolding decoded
 decoded-at d [] i h = absurd (omega arith)
 decoded-at d (s ∷ recs) zero h = refl
@@ -91,7 +91,7 @@ module _ (net : List ℕ) where
   passed-none = refl
 
   step : (i : ℕ) → i < count → Passed i → recordsRefusal [] (recordsOf net) ≡ recordRefusal (take i (boardsOf net)) (bytesOf i) then recordsRefusal (take (suc i) (boardsOf net)) (drop (suc i) (recordsOf net))
-  unfolding recordsRefusal
+  unfolding inOrder
   step i h p =
       p ∙ ap (recordsRefusal (take i (boardsOf net))) (rest-of i h)
       ∙ ap (λ (bs : Boards). recordRefusal (take i (boardsOf net)) (bytesOf i) then recordsRefusal bs (drop (suc i) (recordsOf net))) (sym (before-next i h))
@@ -105,5 +105,5 @@ module _ (net : List ℕ) where
   passed-refused i h p e = step i h p ∙ ap (λ (o : Option Refusal). o then recordsRefusal (take (suc i) (boardsOf net)) (drop (suc i) (recordsOf net))) e
 
   pub passed-all : (i : ℕ) → i ≡ count → Passed i → recordsRefusal [] (recordsOf net) ≡ none
-  unfolding recordsRefusal
+  unfolding inOrder
   passed-all i e p = p ∙ ap (λ (m : ℕ). recordsRefusal (take i (boardsOf net)) (drop m (recordsOf net))) (e ∙ sym recs-length) ∙ ap (recordsRefusal (take i (boardsOf net))) (drop-length (recordsOf net))

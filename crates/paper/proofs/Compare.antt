@@ -5,12 +5,15 @@ use mathlib.Core.List.{List, [], _∷_}
 use lib.Dec.{T, eqb, eqb→eq}
 use lib.IntN.{ℤ, pos, negsuc}
 use lib.ListN.{getD}
+use Prim.Native.Nat.{ℕ}
 use Rattle.lemmas.proofs.Bools.{bothT}
 use Rattle.turn.specs.declared.Num.{Num}
 use Rattle.paper.specs.declared.Lent.{Lent}
 use Rattle.paper.specs.declared.Lent.the-variants.{NetworkBytes, FaultBytes}
 use Rattle.paper.specs.declared.Part.{Part}
 use Rattle.paper.specs.declared.Answer.{Answer}
+use Rattle.paper.specs.declared.Written.{Written}
+use Rattle.paper.specs.Bytes.{sameBytes}
 use Rattle.paper.specs.Phase.{four}
 
 abbrev pub sameℤ : ℤ → ℤ → Bool
@@ -83,3 +86,21 @@ sameAnswer→ a b t =
       n = eqb→eq (a .n) (b .n) (e .0) i;
       number = eqb→eq (a .number) (b .number) (f .0) i;
     }
+
+-- ---- what writing returns, and bytes
+abbrev pub sameWritten : Written → Written → Bool
+sameWritten a b = (eqb (a .number) (b .number) && eqb (a .place) (b .place)) && (eqb (a .len) (b .len) && samePart (a .part) (b .part))
+
+pub sameWritten→ : (a b : Written) → T (sameWritten a b) → a ≡ b
+sameWritten→ a b t =
+    let h = bothT (eqb (a .number) (b .number) && eqb (a .place) (b .place)) (eqb (a .len) (b .len) && samePart (a .part) (b .part)) t in
+    let f = bothT (eqb (a .number) (b .number)) (eqb (a .place) (b .place)) (h .0) in
+    let g = bothT (eqb (a .len) (b .len)) (samePart (a .part) (b .part)) (h .1) in
+    λ i. record { part = samePart→ (a .part) (b .part) (g .1) i; len = eqb→eq (a .len) (b .len) (g .0) i; place = eqb→eq (a .place) (b .place) (f .1) i; number = eqb→eq (a .number) (b .number) (f .0) i }
+
+pub sameBytes→ : (xs ys : List ℕ) → T (sameBytes xs ys) → xs ≡ ys
+unfolding sameBytes
+sameBytes→ [] [] t = refl
+sameBytes→ [] (y ∷ ys) t = absurd t
+sameBytes→ (x ∷ xs) [] t = absurd t
+sameBytes→ (x ∷ xs) (y ∷ ys) t = let h = bothT (eqb x y) (sameBytes xs ys) t in ap₂ _∷_ (eqb→eq x y (h .0)) (sameBytes→ xs ys (h .1))

@@ -9,7 +9,7 @@ use Rattle.paper.specs.declared.Lent.the-variants.{NetworkBytes, FaultBy
 use Rattle.paper.specs.Bytes.{part}
 use Rattle.paper.specs.Kind.{ohms}
 use Rattle.paper.specs.Answer.{paper}
-use Rattle.paper.proofs.Written.{head, bd, ft, Written·open}
+use Rattle.paper.proofs.Typed.{head, bd, ft, Typed·open}
 use Rattle.paper.proofs.Calls.{Figure, call, same, at, taken, refused, neg, All, all→}
 
 abbrev j : ℕ → Ohms
@@ -167,7 +167,7 @@ starred =
     ∷ []
 
 pub starred-hold : All starred
-unfolding paper Written·open records starred
+unfolding paper Typed·open records starred
 starred-hold = all→ starred tt
 
 -- ---- those without a star that compute in reason, what the starred ones miss, and each number of a refusal
@@ -302,5 +302,5 @@ others =
     ∷ []
 
 pub others-hold : All others
-unfolding paper Written·open records others
+unfolding paper Typed·open records others
 others-hold = all→ others tt

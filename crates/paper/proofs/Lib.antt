@@ -1,7 +1,8 @@
--- The paper's figures: files written out, rows that say equations, the two tables. None needs believing.
-pub mod Written
+-- The paper's figures: files written out, rows that say equations, the tables. None needs believing.
+pub mod Typed
 pub mod Compare
 pub mod Calls
 pub mod Figures
+pub mod WriteFigures
 -- what tables of wrong answers say of impedances and sequences
 pub mod Told

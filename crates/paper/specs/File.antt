@@ -61,6 +61,10 @@ unfoldable pub faultOf : List ℕ → Fault
 faultOf s = record { zf = ohmsAt s 16; label = bytesAt labelSize s 2; kind = u8At s 14; phase = u8At s 15 }
 
 -- ---- the records, one behind the other
+-- "4 .. length not 8 + 44N"
+abbrev pub fileSize : ℕ → ℕ
+fileSize n = headSize + boardSize * n
+
 -- where record r stands, r from 1
 abbrev pub startOf : ℕ → ℕ
 startOf r = headSize + boardSize * (r - 1)

@@ -15,5 +15,7 @@ pub mod Amps
 pub mod Rows
 pub mod Refusal
 pub mod Answer
+-- 02, R-1: 'Write the network file'
+pub mod Write
 -- what contracts ask of impedances and of numbers
 pub mod Bounds

@@ -16,7 +16,7 @@ use Rattle.paper.specs.declared.Refusal.{Refusal}
 use Rattle.paper.specs.Rows.{Test, test, Row, row, rowsAt, first, _then_}
 use Rattle.paper.specs.Label.{spaces, formed}
 use Rattle.paper.specs.Kind.{partOver, kindOf, known, standsAt, allHold}
-use Rattle.paper.specs.File.{markOf, HD, BD, FT, headOf, headSize, boardOf, boardSize, faultOf, faultSize, startOf, recordsOf, boardsOf}
+use Rattle.paper.specs.File.{markOf, HD, BD, FT, headOf, headSize, boardOf, boardSize, faultOf, faultSize, fileSize, startOf, recordsOf, boardsOf}
 use Rattle.paper.specs.Chain.{Boards, placeOf, unearthed, Z1, Z2, Z0}
 
 -- ---- the parts
@@ -43,7 +43,7 @@ headRows s =
     row 1 (ltb (length s) headSize) 0 (allOf NetworkBytes s)
     ∷ row 2 (not (eqb (markOf s) HD)) 0 theHead
     ∷ row 3 (not (headRanges h)) 0 theHead
-    ∷ row 4 (not (eqb (length s) (headSize + boardSize * h .boards))) 0 theHead
+    ∷ row 4 (not (eqb (length s) (fileSize (h .boards)))) 0 theHead
     ∷ []
 
 -- ---- 5 to 11: a record
@@ -80,10 +80,23 @@ boardTests before b =
 unfoldable pub recordRefusal : Boards → List ℕ → Option Refusal
 recordRefusal before s = let r = suc (length before) in first (rowsAt r (theRecord r) (test 5 (not (eqb (markOf s) BD)) ∷ boardTests before (boardOf s)))
 
--- "5 to 11 are all tried on one record before the next."
-unfoldable pub recordsRefusal : Boards → List (List ℕ) → Option Refusal
-recordsRefusal before [] = none
-recordsRefusal before (s ∷ rest) = let later = recordsRefusal (before ++ (boardOf s ∷ [])) rest in recordRefusal before s then later
+-- "5 to 11 are all tried on one record before the next.": each is judged behind the boards of those before it
+unfoldable pub inOrder : {A : Type 0} → (A → Board) → (Boards → A → Option Refusal) → Boards → List A → Option Refusal
+inOrder board judged before [] = none
+inOrder board judged before (a ∷ rest) = let later = inOrder board judged (before ++ (board a ∷ [])) rest in judged before a then later
+
+abbrev pub recordsRefusal : Boards → List (List ℕ) → Option Refusal
+recordsRefusal = inOrder boardOf recordRefusal
+
+-- 02, R-1: of boards that are no bytes. 6 to 11, and "the part is the bytes tested, empty where there are none"
+abbrev pub noPart : Part
+noPart = part NetworkBytes 0 0
+
+unfoldable pub boardRefusal : Boards → Board → Option Refusal
+boardRefusal before b = first (rowsAt (suc (length before)) noPart (boardTests before b))
+
+abbrev pub boardsRefusal : Boards → Boards → Option Refusal
+boardsRefusal = inOrder (λ b. b) boardRefusal
 
 unfoldable pub networkRefusal : List ℕ → Option Refusal
 networkRefusal net = first (headRows net) then recordsRefusal [] (recordsOf net)
@@ -120,5 +133,5 @@ unfoldable pub refusal : List ℕ → List ℕ → ℕ → Option Refusal
 refusal net flt room = networkRefusal net then first (faultRows (boardsOf net) flt room)
 
 unfoldable pub Refusal·open : Unit {0}
-unfolding headRanges headRows feederWrong kindWrong impedanceWrong sumWrong boardTests recordRefusal recordsRefusal networkRefusal phaseWrong earthMissing faultRows refusal
+unfolding headRanges headRows feederWrong kindWrong impedanceWrong sumWrong boardTests recordRefusal inOrder boardRefusal networkRefusal phaseWrong earthMissing faultRows refusal
 Refusal·open = tt

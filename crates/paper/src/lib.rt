@@ -1,7 +1,8 @@
 // The files and the answer of the paper, as the crates above pass them to each other. No functions: what each field means stands in specs/.
 use turn::Num;
 
-// An impedance, in counts.
+// An impedance, in counts. C's layout, as Board's.
+#[repr(C)]
 pub struct Ohms {
     pub r: u16,
     pub x: u16,
@@ -14,7 +15,8 @@ pub struct Head {
     pub boards: u16,
 }
 
-// A board's record without its mark. The feeder is kept as it was written.
+// A board's record without its mark. The feeder is kept as it was written. Programs in C lend boards, so they lie as C lays them out.
+#[repr(C)]
 pub struct Board {
     pub z1: Ohms,
     pub z2: Ohms,
@@ -73,5 +75,13 @@ pub struct Answer {
     pub part: Part,
     pub place: u16,
     pub n: u16,
+    pub number: u8,
+}
+
+// What writing a network file returns: the file's length, or the first rule that the boards break.
+pub struct Written {
+    pub part: Part,
+    pub len: usize,
+    pub place: u16,
     pub number: u8,
 }

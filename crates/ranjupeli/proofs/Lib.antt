@@ -1,1 +1,2 @@
--- Nothing beside the functions' own proofs.
+-- what the reply of `ranjupeli_write` rules out
+mod RuledOut

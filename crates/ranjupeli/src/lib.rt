@@ -1,10 +1,13 @@
-// `solve` for programs in C and Rust: the one function of the archive, and its answer as C lays it out.
+// `solve` and `write` for programs in C and Rust: the two functions of the archive, and their answers as C lays them out.
 ghost use mathlib.Core.Path.{_≡_};
 ghost use lib.ListN.{length};
 ghost use Rattle.paper.specs.Answer.{verdict, written};
-ghost use Rattle.ranjupeli.specs.Reply.{ownerOf, replyOf};
+ghost use Rattle.paper.specs.Write.{writeVerdict, writeLeaves};
+ghost use Rattle.ranjupeli.specs.Reply.{ownerOf, replyOf, writeReplyOf};
 use paper::Answer;
+use paper::Board;
 use paper::Lent;
+use paper::Written;
 
 // An answer without an enum and without a struct inside. bindings/ranjupeli.h says the same fields in the same order.
 #[repr(C)]
@@ -52,4 +55,37 @@ pub extern "C" fn ranjupeli_solve(net: &[u8], flt: &[u8], buffer: &mut [i64]) ->
 {
     let a = solve::solve(net, flt, buffer);
     laid_out(a)
+}
+
+// What writing returned. There is no part: no bytes were given.
+#[repr(C)]
+pub struct WriteReply {
+    pub len: usize,
+    pub place: u16,
+    pub number: u8,
+}
+
+pub(crate) fn laid_out_write(w: Written) -> WriteReply
+    ensures { λ r. ⌜ r ≡ writeReplyOf w ⌝ }
+{
+    WriteReply {
+        len: w.len,
+        place: w.place,
+        number: w.number,
+    }
+}
+
+// Any numbers, any boards, any buffer: nothing is asked of the caller but that what it lends is there.
+#[no_mangle]
+pub extern "C" fn ranjupeli_write(
+    volts: u16,
+    unit: u16,
+    boards: &[Board],
+    out: &mut [u8],
+) -> WriteReply
+    ensures { λ r. ⌜ r ≡ writeReplyOf (writeVerdict volts unit (now (boards .entry)) (length (now (out .entry)))) ⌝ }
+    ensures { λ _. ⌜ now (out .exit) ≡ writeLeaves volts unit (now (boards .entry)) (now (out .entry)) ⌝ }
+{
+    let w = writer::write(volts, unit, boards, out);
+    laid_out_write(w)
 }

@@ -19,7 +19,7 @@ use Rattle.paper.specs.Refusal.{recordsRefusal, Refusal·open}
 use Rattle.label.specs.Places.{placesOf}
 use Rattle.node.specs.declared.Node.{Node}
 use Rattle.node.specs.Node.{noNode, OwnSmall, UpSmall, withZero, nodeFrom, nodeOver}
-use Rattle.node.specs.Tables.{table, emptyBoard}
+use Rattle.node.specs.Tables.{table}
 use Rattle.records.specs.declared.Step.{Step}
 use Rattle.records.specs.declared.Judged.{Judged}
 use Rattle.records.specs.Rules.{fedWrong, broken, numberOf, earlier, stepOf}
@@ -122,10 +122,10 @@ step-not =
 
 module _ (κ : Lft) where
   pub judge-not : RuledOut (judge.Pre (κ, tt)) (ever (judge.Post (κ, tt))) (
-      (lent net, (1, (table emptyBoard (boardsOf net), (placesOf (boardsOf net), tt)))) ↛ placed 2  -- counted_from_0
-      ∷ (lent net, (1, (table emptyBoard (boardsOf net), (placesOf (boardsOf net), tt)))) ↛ placed 0  -- place_from_0
+      (lent net, (1, (placesOf (boardsOf net), tt))) ↛ placed 2  -- counted_from_0
+      ∷ (lent net, (1, (placesOf (boardsOf net), tt))) ↛ placed 0  -- place_from_0
       ∷ [])
   unfolding placeSaid File·open Refusal·open Rows·open
   judge-not =
       by (λ z. z .place) (λ a. placeSaid (recordsRefusal [] (recordsOf (a .0 .now)))) (λ a z s. place-is (a .0 .now) z (s .1))
-      ((refl, lit≤ tt, refl, refl, refl), ((refl, lit≤ tt, refl, refl, refl), tt)) tt
+      ((refl, lit≤ tt, refl, refl), ((refl, lit≤ tt, refl, refl), tt)) tt

@@ -19,10 +19,9 @@ use Rattle.records.specs.declared.Step.{Step}
 use Rattle.records.specs.declared.Judged.{Judged}
 use Rattle.node.specs.Node.{nodeOf, noNode, UpSmall}
 use Rattle.records.specs.Rules.{earlier, stepOf}
-use Rattle.node.specs.Tables.{table, emptyBoard, nodesFrom}
+use Rattle.node.specs.Tables.{table, nodesFrom}
 use Rattle.records.specs.Judgement.{Judgement}
 use Rattle.node.proofs.Records.{count, bytesOf, boards-count, board-at, mark-at}
-use Rattle.node.proofs.Tables.{table-at}
 use Rattle.records.proofs.Reading.{Read, read-all, before, feeder, up-is, up-small, step-refused, step-passes}
 
 module _ (net : List ℕ) (i : ℕ) (nodes : List Node) (h : i < count net) (read : Read net i nodes) (few : count net ≤ 256) where
@@ -36,9 +35,6 @@ module _ (net : List ℕ) (i : ℕ) (nodes : List Node) (h : i < count net) (rea
   fed = placeOf (b .feeder) (boardsOf net)
 
   -- what the turn reads
-  pub board-read : (d : Board) {boards : List Board} → boards ≡ table emptyBoard (boardsOf net) → getD boards i d ≡ b
-  board-read d e = ap (λ (l : List Board). getD l i d) e ∙ table-at emptyBoard (boardsOf net) i d (omega (arith, boards-count net)) ∙ board-at net d i h
-
   pub own-read : {l : List ℕ} → l ≡ placesOf (boardsOf net) .own → getD l i 0 ≡ own
   own-read e =
       ap (λ (x : List ℕ). getD x i 0) e ∙ own-at (boardsOf net) i (omega (arith, boards-count net)) (omega (arith, boards-count net))

@@ -7,16 +7,15 @@ ghost use Prim.Native.Nat.{_+_, _*_, _≤_};
 ghost use lib.ListN.{length};
 ghost use Rattle.paper.specs.File.{headOf, boardsOf};
 ghost use Rattle.label.specs.Places.{placesOf};
-ghost use Rattle.node.specs.Tables.{table, emptyBoard};
 ghost use Rattle.records.specs.Judgement.{Judgement};
 use crate::rules::earlier;
 use crate::rules::step;
 use crate::sums::no_node;
+use file::bytes::board_of;
 use file::field::u16_at;
 use label::places::Places;
 use node::Node;
 use node::index;
-use paper::Board;
 
 // A record judged: the number of the first broken rule of 5 to 11, or 0 and its node.
 pub(crate) struct Step {
@@ -31,8 +30,9 @@ pub struct Judged {
     pub number: u8,
 }
 
-pub fn judge(net: &[u8], n: usize, boards: [Board; 256], places: Places) -> Judged
-    requires { ⌜ (n ≡ headOf (now net) .boards) × (n ≤ 256) × (length (now net) ≡ 8 + 44 * n) × (boards ≡ table emptyBoard (boardsOf (now net))) × (places ≡ placesOf (boardsOf (now net))) ⌝ }
+// A record is decoded again where it is judged: to pass the table of them would copy it.
+pub fn judge(net: &[u8], n: usize, places: Places) -> Judged
+    requires { ⌜ (n ≡ headOf (now net) .boards) × (n ≤ 256) × (length (now net) ≡ 8 + 44 * n) × (places ≡ placesOf (boardsOf (now net))) ⌝ }
     ensures { λ r. ⌜ Judgement (now (net .entry)) r ⌝ }
 {
     let none = no_node();
@@ -42,8 +42,10 @@ pub fn judge(net: &[u8], n: usize, boards: [Board; 256], places: Places) -> Judg
     let mut i: usize = 0;
     while i < n {
         let r = i + 1;
-        let mark = u16_at(net, 8 + 44 * i);
-        let b = boards[i];
+        let a = 8 + 44 * i;
+        let e = a + 44;
+        let mark = u16_at(net, a);
+        let b = board_of(&net[a..e]);
         let mine = index(own[i]);
         let theirs = index(fed[i]);
         let feeder = earlier(r, theirs);

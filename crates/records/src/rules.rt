@@ -7,15 +7,13 @@ use crate::Step;
 use crate::sums::no_node;
 use crate::sums::node_from;
 use crate::sums::node_over;
+use file::field::BD;
 use kind::clock::kind_wrong;
 use kind::must_hold::impedance_wrong;
 use label::formed::formed;
 use label::is_spaces;
 use node::Node;
 use paper::Board;
-
-// A board's mark.
-const BD: u16 = 0x4442;
 
 fn fed_wrong(r: usize, b: Board, fed: usize) -> bool
     ensures { λ w. ⌜ w ≡ fedWrong r b fed ⌝ }

@@ -1,18 +1,22 @@
--- What the bytes of an answer tell: the bytes that it shows, and all elements. Assumes nothing.
+-- What the bytes of an answer tell: of `solve` the bytes that it shows, and all elements; of `write` all of it, and all bytes of the output. Assumes nothing.
 use mathlib.Core.Path.{_≡_, refl, sym, ap, _∙_}
 use mathlib.Core.List.{List, [], _∷_, _++_, append-assoc}
-use Prim.Native.Nat.{ℕ}
+use Prim.Native.Nat.{ℕ, _^_, _<_}
 use native.Mathlib.Omega.{arith}
 use lib.IntN.{ℤ}
 use lib.ListN.{length, take, drop}
 use lib.Seq.{take-append-seam, drop-append-seam}
 use mir.Syntax.{w64}
 use mir.Val.{SFits}
-use Rattle.decimal.specs.Little.{little, wordOf}
+use Rattle.lemmas.specs.Little.{little}
+use Rattle.decimal.specs.Word.{wordOf}
 use Rattle.decimal.proofs.Stored.{little-length}
 use Rattle.decimal.proofs.Back.{same-number, word-fits, same-word}
+use Rattle.paper.specs.declared.Lent.{Lent}
+use Rattle.paper.specs.declared.Lent.the-variants.{NetworkBytes, FaultBytes}
 use Rattle.paper.specs.declared.Answer.{Answer}
-use Rattle.stream.specs.Layout.{partOf, foundOf, headOf, elementsOf, bytesOf}
+use Rattle.paper.specs.declared.Written.{Written}
+use Rattle.stream.specs.Layout.{threeOf, whoseOf, partOf, foundOf, headOf, elementsOf, bytesOf, writtenOf}
 use Rattle.stream.proofs.Pieces.{elements-length}
 
 abbrev pub AllFit : List ℤ → Type 0
@@ -40,9 +44,46 @@ same-elements (y ∷ ys) (z ∷ zs) f g e =
 -- of the same answer, which says how many bytes it shows
 module _ (a : Answer) (shown shown′ : List ℕ) (ys zs : List ℤ) where
   pub same-answer : length shown ≡ a .part .len → length shown′ ≡ a .part .len → AllFit ys → AllFit zs → bytesOf a shown ys ≡ bytesOf a shown′ zs → (shown ≡ shown′) × (ys ≡ zs)
-  unfolding bytesOf headOf foundOf partOf little
+  unfolding bytesOf headOf foundOf partOf threeOf little
   same-answer l m f g e =
       let k : length shown ≡ length shown′ = l ∙ sym m in
       let n : length (little 4 (length ys)) ≡ length (little 4 (length zs)) = little-length 4 (length ys) ∙ sym (little-length 4 (length zs)) in
       let rest : shown ++ (little 4 (length ys) ++ elementsOf ys) ≡ shown′ ++ (little 4 (length zs) ++ elementsOf zs) = sym (append-assoc shown (little 4 (length ys)) (elementsOf ys)) ∙ ap (drop 32) e ∙ append-assoc shown′ (little 4 (length zs)) (elementsOf zs) in
       (front shown shown′ _ _ k rest, same-elements ys zs f g (behind (little 4 (length ys)) (little 4 (length zs)) _ _ n (behind shown shown′ _ _ k rest)))
+
+-- ---- of `write`
+same-whose : (a b : Lent) → whoseOf a ≡ whoseOf b → a ≡ b
+unfolding whoseOf
+same-whose NetworkBytes NetworkBytes e = refl
+same-whose NetworkBytes FaultBytes e = absurd (omega (arith, e))
+same-whose FaultBytes NetworkBytes e = absurd (omega (arith, e))
+same-whose FaultBytes FaultBytes e = refl
+
+whose-word : (a : Lent) → whoseOf a < 256 ^ 4
+unfolding whoseOf
+whose-word NetworkBytes = omega arith
+whose-word FaultBytes = omega arith
+
+-- its numbers are of four bytes
+pub record Words (w : Written) : Type 0 where
+  pub number-word : w .number < 256 ^ 4
+  pub place-word : w .place < 256 ^ 4
+  pub file-word : w .len < 256 ^ 4
+  pub start-word : w .part .start < 256 ^ 4
+  pub part-word : w .part .len < 256 ^ 4
+
+module _ (v w : Written) (xs ys : List ℕ) (e : writtenOf v xs ≡ writtenOf w ys) where
+  pub same-output : xs ≡ ys
+  unfolding writtenOf partOf threeOf little
+  same-output = ap (drop 28) e
+
+  pub same-written : Words v → Words w → v ≡ w
+  unfolding writtenOf partOf threeOf little
+  same-written f g =
+      let number = same-number 4 (v .number) (w .number) (f .number-word) (g .number-word) (ap (take 4) e) in
+      let place = same-number 4 (v .place) (w .place) (f .place-word) (g .place-word) (ap (λ (s : List ℕ). take 4 (drop 4 s)) e) in
+      let len = same-number 4 (v .len) (w .len) (f .file-word) (g .file-word) (ap (λ (s : List ℕ). take 4 (drop 8 s)) e) in
+      let whose = same-whose (v .part .whose) (w .part .whose) (same-number 4 _ _ (whose-word (v .part .whose)) (whose-word (w .part .whose)) (ap (λ (s : List ℕ). take 4 (drop 12 s)) e)) in
+      let start = same-number 4 (v .part .start) (w .part .start) (f .start-word) (g .start-word) (ap (λ (s : List ℕ). take 4 (drop 16 s)) e) in
+      let many = same-number 4 (v .part .len) (w .part .len) (f .part-word) (g .part-word) (ap (λ (s : List ℕ). take 4 (drop 20 s)) e) in
+      λ i. record { part = record { whose = whose i; start = start i; len = many i }; len = len i; place = place i; number = number i }

@@ -1,4 +1,5 @@
 pub mod Marks
+pub mod Boards
 pub mod Pieces
 pub mod Back
 mod RuledOut

@@ -13,16 +13,23 @@ use mir.Facts.{toZ-ofZ}
 use Rattle.lemmas.proofs.Words.{kept}
 use Rattle.paper.specs.declared.Part.{Part}
 use Rattle.paper.specs.declared.Answer.{Answer}
-use Rattle.decimal.specs.Little.{little, wordOf}
+use Rattle.paper.specs.declared.Written.{Written}
+use Rattle.lemmas.specs.Little.{little}
+use Rattle.decimal.specs.Word.{wordOf}
 use Rattle.decimal.proofs.Stored.{little-length}
-use Rattle.stream.specs.Layout.{whoseOf, partOf, foundOf, headOf, elementsOf, bytesOf}
+use Rattle.stream.specs.Layout.{threeOf, whoseOf, partOf, foundOf, headOf, elementsOf, bytesOf, writtenOf}
 
--- ---- an answer's
-pub part-pieces : (p : Part) {w : ℕ} → w ≡ whoseOf (p .whose) → partOf p ≡ little 4 w ++ (little 4 (p .start) ++ little 4 (p .len))
+-- ---- what answers share
+pub three-pieces : (a b c : ℕ) → threeOf a b c ≡ little 4 a ++ (little 4 b ++ little 4 c)
+unfolding threeOf
+three-pieces a b c = refl
+
+pub part-pieces : (p : Part) {w : ℕ} → w ≡ whoseOf (p .whose) → partOf p ≡ threeOf w (p .start) (p .len)
 unfolding partOf
-part-pieces p e = ap (λ (w : ℕ). little 4 w ++ (little 4 (p .start) ++ little 4 (p .len))) (sym e)
+part-pieces p e = ap (λ (w : ℕ). threeOf w (p .start) (p .len)) (sym e)
 
-pub found-pieces : (a : Answer) → foundOf a ≡ little 4 (a .number) ++ (little 4 (a .place) ++ (little 4 (a .n) ++ little 8 (a .amps)))
+-- ---- an answer's of `solve`
+pub found-pieces : (a : Answer) → foundOf a ≡ threeOf (a .number) (a .place) (a .n) ++ little 8 (a .amps)
 unfolding foundOf
 found-pieces a = refl
 
@@ -33,6 +40,11 @@ head-pieces a shown room = refl
 pub answer-pieces : (a : Answer) (shown : List ℕ) (zs : List ℤ) → bytesOf a shown zs ≡ headOf a shown (length zs) ++ elementsOf zs
 unfolding bytesOf
 answer-pieces a shown zs = refl
+
+-- ---- an answer's of `write`
+pub written-pieces : (w : Written) (out : List ℕ) → writtenOf w out ≡ threeOf (w .number) (w .place) (w .len) ++ (partOf (w .part) ++ (little 4 (length out) ++ out))
+unfolding writtenOf
+written-pieces w out = refl
 
 -- ---- the elements, from the first that is left on
 module _ (zs : List ℤ) where
@@ -55,9 +67,13 @@ elements-length [] = refl
 elements-length (z ∷ zs) = length-append (little 8 (wordOf z)) (elementsOf zs) ∙ omega (arith, little-length 8 (wordOf z), elements-length zs)
 
 head-length : (a : Answer) (shown : List ℕ) (room : ℕ) → length (headOf a shown room) ≡ 36 + length shown
-unfolding headOf foundOf partOf little
+unfolding headOf foundOf partOf threeOf little
 head-length a shown room = omega (arith, length-append shown (little 4 room), little-length 4 room)
 
 pub bytes-length : (a : Answer) (shown : List ℕ) (zs : List ℤ) → length (bytesOf a shown zs) ≡ 36 + length shown + 8 * length zs
 unfolding bytesOf
 bytes-length a shown zs = length-append (headOf a shown (length zs)) (elementsOf zs) ∙ omega (arith, head-length a shown (length zs), elements-length zs)
+
+pub written-length : (w : Written) (out : List ℕ) → length (writtenOf w out) ≡ 28 + length out
+unfolding writtenOf partOf threeOf little
+written-length w out = omega arith

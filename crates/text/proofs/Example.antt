@@ -6,7 +6,7 @@ use Prim.Native.String as S
 use Rattle.paper.specs.Bytes.{text}
 use Rattle.paper.specs.Kind.{ohms}
 use Rattle.paper.specs.Answer.{paper}
-use Rattle.paper.proofs.Written.{head, ft, Written·open}
+use Rattle.paper.proofs.Typed.{head, ft, Typed·open}
 use Rattle.paper.proofs.Figures.{gen}
 use Rattle.text.specs.Text.{printed, Text·open}
 
@@ -30,5 +30,5 @@ whole =
     ++ ln "GEN I c 0 20 0 0"
 
 pub example-printed : printed (head 230 1000 1 ++ gen) (ft "GEN" 0 0 (ohms 0 0)) ≡ whole
-unfolding paper Written·open gen Text·open ln whole
+unfolding paper Typed·open gen Text·open ln whole
 example-printed = refl

@@ -9,7 +9,7 @@ use Rattle.paper.specs.declared.Refusal.{Refusal}
 use Rattle.paper.specs.File.{boardOf, recordsOf, boardsOf}
 use Rattle.paper.specs.Chain.{Boards}
 use Rattle.paper.specs.Rows.{Row, row, rowsAt, first, _then_}
-use Rattle.paper.specs.Refusal.{headRows, boardTests, recordRefusal, recordsRefusal, networkRefusal, faultRows, refusal}
+use Rattle.paper.specs.Refusal.{headRows, boardTests, recordRefusal, inOrder, recordsRefusal, networkRefusal, faultRows, refusal}
 
 abbrev Numbered : Option Refusal → Type 0
 Numbered none = Unit {0}
@@ -36,7 +36,7 @@ unfolding recordRefusal rowsAt boardTests
 record-numbered before s = first-numbered _ (tt, (tt, (tt, (tt, (tt, (tt, (tt, tt)))))))
 
 records-numbered : (before : Boards) (recs : List (List ℕ)) → Numbered (recordsRefusal before recs)
-unfolding recordsRefusal
+unfolding inOrder
 records-numbered before [] = tt
 records-numbered before (s ∷ recs) = then-numbered (recordRefusal before s) _ (record-numbered before s) (records-numbered (before ++ (boardOf s ∷ [])) recs)
 

@@ -13,7 +13,7 @@ use Rattle.paper.specs.declared.Refusal.{Refusal}
 use Rattle.paper.specs.File.{headOf, boardOf, faultOf, recordsOf, boardsOf}
 use Rattle.paper.specs.Chain.{Boards, placeOf}
 use Rattle.paper.specs.Rows.{Test, test, Row, row, rowsAt, first, _then_}
-use Rattle.paper.specs.Refusal.{theRecord, headRows, recordRefusal, recordsRefusal, networkRefusal, faultRows, refusal}
+use Rattle.paper.specs.Refusal.{theRecord, headRows, recordRefusal, inOrder, recordsRefusal, networkRefusal, faultRows, refusal}
 use Rattle.paper.specs.Phase.{asked}
 use Rattle.paper.specs.Answer.{accepted, refused, answer, verdict}
 use Rattle.follows.proofs.Rows.{clear}
@@ -51,7 +51,7 @@ module _ (P : Part → Type 0) where
 
   -- a record's rules show the record
   shows-records : (last : ℕ) → ((r : ℕ) → 1 ≤ r → r ≤ last → P (theRecord r)) → (before : Boards) (recs : List (List ℕ)) → length before + length recs ≤ last → Shows (recordsRefusal before recs)
-  unfolding recordsRefusal recordRefusal
+  unfolding inOrder recordRefusal
   shows-records last h before [] l = tt
   shows-records last h before (x ∷ recs) l =
       shows-then (recordRefusal before x) (recordsRefusal (before ++ (boardOf x ∷ [])) recs) (shows-at (suc (length before)) (theRecord (suc (length before))) _ (h (suc (length before)) (omega arith) (omega arith)))

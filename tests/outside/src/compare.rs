@@ -1,19 +1,56 @@
 //! One answer of the proved program held against this one, field by field and number by number.
 
 use crate::judge::room_needed;
-use crate::make::Case;
+use crate::make::{Case, SolveCase, WriteCase};
 use crate::paper::Paper;
-use crate::stream::{answer, Answer};
+use crate::stream::solve::{answer as solved, SolveAnswer};
+use crate::stream::write::{answer as written, WriteAnswer};
+use crate::stream::Answer;
 use crate::tally::Tally;
+use crate::write::readback;
 use crate::{laws, solve};
 
 /// Networks up to this size are always solved by elimination too, one in four of the larger.
 const SMALL: u32 = 12;
 
-/// What an answer must be; checked against the laws before anything is held against it.
-pub fn check(index: u64, case: &Case, got: &Answer, tally: &mut Tally) -> Result<(), String> {
-    let due = answer(&Paper::AS_WRITTEN, case);
-    tally.count(case, &due.verdict);
+/// What a comparison finds, by whose fault it is.
+pub enum Finding {
+    Program(String),
+    /// This program contradicts itself; nothing is said of the other.
+    Own(String),
+}
+
+impl From<String> for Finding {
+    fn from(what: String) -> Finding {
+        Finding::Program(what)
+    }
+}
+
+/// Who can see a wrong answer without this program's own answer to the case.
+#[derive(Clone, Copy, PartialEq, Eq)]
+pub enum Witness {
+    Laws,
+    Solve,
+    ReadBack,
+}
+
+/// An answer is held against the due one, and then by itself against what the papers promise.
+pub fn check(index: u64, case: &Case, got: &Answer, tally: &mut Tally) -> Result<(), Finding> {
+    match (case, got) {
+        (Case::Solve(case), Answer::Solve(got)) => check_solved(index, case, got, tally),
+        (Case::Write(case), Answer::Write(got)) => Ok(check_written(case, got, tally)?),
+        _ => Err(Finding::Own("an answer to another entry point".into())),
+    }
+}
+
+fn check_solved(
+    index: u64,
+    case: &SolveCase,
+    got: &SolveAnswer,
+    tally: &mut Tally,
+) -> Result<(), Finding> {
+    let due = solved(&Paper::AS_WRITTEN, case);
+    tally.count_solved(case, &due.verdict);
     same(&due, got)?;
     if got.verdict.number == 0 {
         tally.laws += 1;
@@ -23,22 +60,45 @@ pub fn check(index: u64, case: &Case, got: &Answer, tally: &mut Tally) -> Result
             solve::check(&case.net, &case.fault, &got.buffer)?;
         }
     }
+    // Of this program alone: what its reader takes, its writer gives again.
+    let copied = readback::copied(&case.net).map_err(Finding::Own)?;
+    tally.copied += u64::from(copied);
     Ok(())
 }
 
-/// What `laws` and `solve`, each alone and without this program's own answer, see of a wrong one.
-pub fn alone(case: &Case, got: &Answer) -> [bool; 2] {
-    let v = &got.verdict;
-    let boards = case.net.len().saturating_sub(8) / 44;
-    if v.number != 0 || got.buffer.len() < room_needed(boards) {
-        return [false; 2];
-    }
-    let by_law = laws::check(&case.net, &case.fault, &got.buffer, v.amps);
-    let by_solution = solve::check(&case.net, &case.fault, &got.buffer);
-    [by_law.is_err(), by_solution.is_err()]
+fn check_written(case: &WriteCase, got: &WriteAnswer, tally: &mut Tally) -> Result<(), String> {
+    let due = written(&Paper::AS_WRITTEN, case);
+    tally.count_written(case, &due.verdict);
+    same_file(&due, got)?;
+    tally.read_back += 1;
+    readback::check(case, got)
 }
 
-pub fn same(due: &Answer, got: &Answer) -> Result<(), String> {
+/// Those who, each alone and without this program's own answer, see that an answer is wrong.
+pub fn alone(case: &Case, got: &Answer) -> Vec<Witness> {
+    let mut seen = Vec::new();
+    match (case, got) {
+        (Case::Solve(case), Answer::Solve(got)) => {
+            let boards = case.net.len().saturating_sub(8) / 44;
+            if got.verdict.number != 0 || got.buffer.len() < room_needed(boards) {
+                return seen;
+            }
+            if laws::check(&case.net, &case.fault, &got.buffer, got.verdict.amps).is_err() {
+                seen.push(Witness::Laws);
+            }
+            if solve::check(&case.net, &case.fault, &got.buffer).is_err() {
+                seen.push(Witness::Solve);
+            }
+        }
+        (Case::Write(case), Answer::Write(got)) if readback::check(case, got).is_err() => {
+            seen.push(Witness::ReadBack);
+        }
+        _ => {}
+    }
+    seen
+}
+
+pub fn same(due: &SolveAnswer, got: &SolveAnswer) -> Result<(), String> {
     if due.verdict != got.verdict {
         return Err(format!("due {:?}\n got {:?}", due.verdict, got.verdict));
     }
@@ -46,23 +106,34 @@ pub fn same(due: &Answer, got: &Answer) -> Result<(), String> {
         let (d, g) = (hex(&due.shown), hex(&got.shown));
         return Err(format!("bytes shown: due {d}\n got {g}, {:?}", due.verdict));
     }
-    if due.buffer.len() != got.buffer.len() {
-        let (d, g) = (due.buffer.len(), got.buffer.len());
-        return Err(format!("count: due {d}, got {g}"));
+    let name = |i: usize| format!("number {i} of the buffer ({})", place_name(i, due));
+    first_other(&due.buffer, &got.buffer, name)
+}
+
+pub fn same_file(due: &WriteAnswer, got: &WriteAnswer) -> Result<(), String> {
+    if due.verdict != got.verdict {
+        return Err(format!("due {:?}\n got {:?}", due.verdict, got.verdict));
     }
-    let mut pairs = due.buffer.iter().zip(&got.buffer);
-    match pairs.position(|(d, g)| d != g) {
-        Some(i) => Err(format!(
-            "number {i} of the buffer ({}): due {}, got {}",
-            place_name(i, due),
-            due.buffer[i],
-            got.buffer[i]
-        )),
+    let name = |i: usize| format!("byte {i} of the output ({})", byte_name(i, due));
+    first_other(&due.out, &got.out, name)
+}
+
+/// Where two lists differ first.
+fn first_other<T: PartialEq + std::fmt::Display>(
+    due: &[T],
+    got: &[T],
+    name: impl Fn(usize) -> String,
+) -> Result<(), String> {
+    if due.len() != got.len() {
+        return Err(format!("count: due {}, got {}", due.len(), got.len()));
+    }
+    match due.iter().zip(got).position(|(d, g)| d != g) {
+        Some(i) => Err(format!("{}: due {}, got {}", name(i), due[i], got[i])),
         None => Ok(()),
     }
 }
 
-fn place_name(i: usize, due: &Answer) -> String {
+fn place_name(i: usize, due: &SolveAnswer) -> String {
     if due.verdict.number != 0 {
         return "a refusal, not to be written".into();
     }
@@ -78,6 +149,17 @@ fn place_name(i: usize, due: &Answer) -> String {
     }
 }
 
+fn byte_name(i: usize, due: &WriteAnswer) -> String {
+    if due.verdict.number != 0 {
+        return "a refusal, not to be written".into();
+    }
+    match i {
+        0..=7 => "head".into(),
+        _ if i >= due.verdict.file as usize => "after the file".into(),
+        _ => format!("record {}, its byte {}", (i - 8) / 44 + 1, (i - 8) % 44),
+    }
+}
+
 fn phase(at: usize) -> char {
     ['a', 'b', 'c'][at / 4 % 3]
 }
@@ -89,11 +171,26 @@ pub fn hex(bytes: &[u8]) -> String {
     bytes.iter().map(|b| format!("{b:02x}")).collect()
 }
 
-/// Where two differ, with what is needed to see it again.
-pub fn report(who: &str, index: u64, case: &Case, what: &str) -> String {
-    let (net, fault) = (hex(&case.net), hex(&case.fault));
-    format!(
-        "DIFFERENCE between {who} at case {index} ({})\n {what}\n outside replay {net} {fault} {}",
-        case.note, case.room
-    )
+/// A finding in a case, with what is needed to see it again.
+pub fn report(who: &str, index: u64, case: &Case, finding: &Finding) -> String {
+    let (note, again) = match case {
+        Case::Solve(c) => {
+            let (net, fault) = (hex(&c.net), hex(&c.fault));
+            (&c.note, format!("solve {net} {fault} {}", c.room))
+        }
+        Case::Write(c) => {
+            let boards = hex(&c.boards);
+            let again = format!("write {boards} {} {} {}", c.volts, c.unit, c.room);
+            (&c.note, again)
+        }
+    };
+    let at = format!("case {index} ({note})");
+    match finding {
+        Finding::Program(what) => {
+            format!("DIFFERENCE between {who} at {at}\n {what}\n outside replay {again}")
+        }
+        Finding::Own(what) => format!(
+            "self-test: {at}: {what}: the comparison itself is at fault\n outside replay {again}"
+        ),
+    }
 }

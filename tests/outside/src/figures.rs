@@ -3,14 +3,14 @@
 use crate::compare::same;
 use crate::make::labels::label;
 use crate::make::model::Rec;
-use crate::make::Case;
+use crate::make::SolveCase;
 use crate::paper::Paper;
 use crate::ring::Num;
-use crate::stream::{answer, filled, Answer};
-use crate::{laws, solve, table};
+use crate::stream::solve::{answer, filled, SolveAnswer};
+use crate::{laws, solve, table, write};
 
 /// The text the example program prints (also shown by `replay`).
-pub fn text(case: &Case, a: &Answer) -> String {
+pub fn text(case: &SolveCase, a: &SolveAnswer) -> String {
     let v = &a.verdict;
     if v.number != 0 {
         return format!("REFUSED {} {}\n", v.number, v.place);
@@ -34,7 +34,7 @@ pub fn text(case: &Case, a: &Answer) -> String {
     out
 }
 
-fn rec(name: &str, feeder: &str, kind: u8, clock: u8, z: [u16; 8]) -> Rec {
+pub fn rec(name: &str, feeder: &str, kind: u8, clock: u8, z: [u16; 8]) -> Rec {
     Rec {
         mark: *b"BD",
         label: label(name.as_bytes()),
@@ -71,8 +71,8 @@ fn fault(name: &str, kind: u8, phase: u8, zf: [u16; 2]) -> Vec<u8> {
     out
 }
 
-fn case(net: Vec<u8>, fault: Vec<u8>) -> Case {
-    Case {
+fn case(net: Vec<u8>, fault: Vec<u8>) -> SolveCase {
+    SolveCase {
         room: 6_200,
         net,
         fault,
@@ -80,13 +80,13 @@ fn case(net: Vec<u8>, fault: Vec<u8>) -> Case {
     }
 }
 
-struct Run {
+pub struct Run {
     agree: u32,
     all: u32,
 }
 
 impl Run {
-    fn see(&mut self, holds: bool, name: &str) {
+    pub fn see(&mut self, holds: bool, name: &str) {
         self.all += 1;
         self.agree += u32::from(holds);
         println!("{} {name}", if holds { "agrees " } else { "DIFFERS" });
@@ -168,7 +168,7 @@ fn numbers(run: &mut Run) {
 fn limits(run: &mut Run) {
     let recs = paper_records();
     let net = network(230, 1000, &recs);
-    let gen = fault("GEN", 0, 0, [0, 0]);
+    let at_gen = fault("GEN", 0, 0, [0, 0]);
     run.verdict(
         &net,
         &fault("GEN", 0, 0, [1365, 1365]),
@@ -186,7 +186,7 @@ fn limits(run: &mut Run) {
     for (zn, due) in [(1365, (0, 1)), (1366, (11, 1))] {
         let source = [rec("GEN", "", 0, 0, [0, 20, 0, 20, 0, 0, 0, zn])];
         let name = format!("zn {zn} with z0 = 0: {due:?}");
-        run.verdict(&network(230, 1000, &source), &gen, 200, due, &name);
+        run.verdict(&network(230, 1000, &source), &at_gen, 200, due, &name);
     }
     for (count, due) in [(256, (0, 1)), (257, (3, 0))] {
         let mut many = vec![recs[0].clone()];
@@ -194,32 +194,44 @@ fn limits(run: &mut Run) {
             many.push(rec(&format!("B{r}"), "GEN", 2, 0, [1, 0, 1, 0, 1, 0, 0, 0]));
         }
         let name = format!("N {count}: {due:?}");
-        run.verdict(&network(230, 1000, &many), &gen, 6_200, due, &name);
+        run.verdict(&network(230, 1000, &many), &at_gen, 6_200, due, &name);
     }
 }
 
 fn first_rule(run: &mut Run) {
     let recs = paper_records();
     let net = network(230, 1000, &recs);
-    let gen = fault("GEN", 0, 0, [0, 0]);
+    let at_gen = fault("GEN", 0, 0, [0, 0]);
     let twice = [recs[0].clone(), rec("GEN", "NOWHERE", 2, 0, [0; 8])];
     let net2 = network(230, 1000, &twice);
     run.verdict(
         &net2,
-        &gen,
+        &at_gen,
         200,
         (7, 2),
         "used label with an unknown feeder: 7",
     );
     run.verdict(
         &net,
-        &gen[..19],
+        &at_gen[..19],
         0,
         (12, 0),
         "short fault and short buffer: 12",
     );
-    run.verdict(&net, &gen, 84, (19, 0), "84 numbers for three boards: 19");
-    run.verdict(&net, &gen, 85, (0, 1), "85 numbers for three boards: taken");
+    run.verdict(
+        &net,
+        &at_gen,
+        84,
+        (19, 0),
+        "84 numbers for three boards: 19",
+    );
+    run.verdict(
+        &net,
+        &at_gen,
+        85,
+        (0, 1),
+        "85 numbers for three boards: taken",
+    );
 }
 
 const PRINTED: &str = "FAULT GEN 0 0 11500
@@ -306,6 +318,7 @@ pub fn all() -> bool {
     by_hand(&mut run);
     printed(&mut run);
     others(&mut run);
+    write::table::by_hand(&mut run);
     println!("{} of {} figures agree", run.agree, run.all);
     run.agree == run.all
 }

@@ -17,11 +17,15 @@ mod solve;
 mod stream;
 mod table;
 mod tally;
+mod write;
 
+use make::Case;
 use std::fs::File;
 use std::io::{self, BufReader, BufWriter, Read, Write};
 use std::process::ExitCode;
 use std::time::Instant;
+use stream::solve::SolveAnswer;
+use stream::Answer;
 
 const USAGE: &str = "outside make SEED COUNT > stream
 outside answer [BUDGET] < stream > answers
@@ -32,7 +36,8 @@ outside figures
 outside faults
 outside hunt SEED COUNT
 outside edges SEED COUNT
-outside replay HEXNET HEXFAULT ROOM [-- COMMAND ARGS..]   (- for no bytes)";
+outside replay solve HEXNET HEXFAULT ROOM [-- COMMAND ARGS..]   (- for no bytes)
+outside replay write HEXBOARDS VOLTS UNIT ROOM [-- COMMAND ARGS..]";
 
 /// Ok: all agree. Err: what does not; an empty one is a wrong command line.
 type Outcome = Result<(), String>;
@@ -56,21 +61,28 @@ fn number(text: &str) -> Result<u64, String> {
     text.parse().map_err(|_| String::new())
 }
 
+fn small(text: &str) -> Result<u16, String> {
+    text.parse().map_err(|_| String::new())
+}
+
 fn command(args: &[String]) -> Outcome {
-    let words: Vec<&str> = args.iter().map(String::as_str).collect();
-    match words[..] {
-        ["make", seed, count] => make_stream(number(seed)?, number(count)?),
-        ["answer"] => serve(u64::MAX),
-        ["answer", budget] => serve(number(budget)?),
-        ["compare", seed, count, from] => compare_file(number(seed)?, number(count)?, from),
-        ["run", seed, count, "--", _, ..] => run(number(seed)?, number(count)?, &args[4..]),
-        ["cuts", seed, count, "--", _, ..] => cuts(number(seed)?, number(count)?, &args[4..]),
-        ["figures"] => figures(),
-        ["faults"] => faults::all(),
-        ["hunt", seed, count] => faults::hunt(number(seed)?, number(count)?),
-        ["edges", seed, count] => edges(number(seed)?, number(count)?),
-        ["replay", net, fault, room] => replay(net, fault, room, &[]),
-        ["replay", net, fault, room, "--", _, ..] => replay(net, fault, room, &args[5..]),
+    // Behind "--" stands the program to be tested.
+    let end = args.iter().position(|a| a == "--");
+    let (words, program) = args.split_at(end.unwrap_or(args.len()));
+    let words: Vec<&str> = words.iter().map(String::as_str).collect();
+    match (&words[..], program) {
+        (["make", seed, count], []) => make_stream(number(seed)?, number(count)?),
+        (["answer"], []) => serve(u64::MAX),
+        (["answer", budget], []) => serve(number(budget)?),
+        (["compare", seed, count, from], []) => compare_file(number(seed)?, number(count)?, from),
+        (["run", seed, count], [_, _, ..]) => run(number(seed)?, number(count)?, &program[1..]),
+        (["cuts", seed, count], [_, _, ..]) => cuts(number(seed)?, number(count)?, &program[1..]),
+        (["figures"], []) => figures(),
+        (["faults"], []) => faults::all(),
+        (["hunt", seed, count], []) => faults::hunt(number(seed)?, number(count)?),
+        (["edges", seed, count], []) => edges(number(seed)?, number(count)?),
+        (["replay", case @ ..], []) => replay(replayed(case)?, &[]),
+        (["replay", case @ ..], [_, _, ..]) => replay(replayed(case)?, &program[1..]),
         _ => Err(String::new()),
     }
 }
@@ -143,9 +155,9 @@ fn edges(seed: u64, count: u64) -> Outcome {
     for index in 0..count {
         let case = make::case(seed, index);
         let due = stream::answer(&paper::Paper::AS_WRITTEN, &case);
-        let who = "the judge and the laws";
+        let who = "this program's answers and what the papers promise of them";
         compare::check(index, &case, &due, &mut tally)
-            .map_err(|what| compare::report(who, index, &case, &what))?;
+            .map_err(|finding| compare::report(who, index, &case, &finding))?;
     }
     tally.print();
     tally.print_edges();
@@ -162,25 +174,59 @@ fn unhex(text: &str) -> Result<Vec<u8>, String> {
         .collect()
 }
 
-fn replay(net: &str, fault: &str, room: &str, command: &[String]) -> Outcome {
-    let case = make::Case {
-        room: number(room)? as usize,
-        net: unhex(net)?,
-        fault: unhex(fault)?,
-        note: "replayed".into(),
-    };
-    let due = stream::answer(&paper::Paper::AS_WRITTEN, &case);
-    println!("{:?}", due.verdict);
-    println!("shown {}", compare::hex(&due.shown));
-    print!("{}", figures::text(&case, &due));
-    if due.verdict.number == 0 {
-        laws::check(&case.net, &case.fault, &due.buffer, due.verdict.amps)?;
-        solve::check(&case.net, &case.fault, &due.buffer)?;
-        println!("laws hold, and give these numbers only");
+fn replayed(words: &[&str]) -> Result<Case, String> {
+    let note = String::from("replayed");
+    match words {
+        ["solve", net, fault, room] => Ok(Case::Solve(make::SolveCase {
+            room: number(room)? as usize,
+            net: unhex(net)?,
+            fault: unhex(fault)?,
+            note,
+        })),
+        ["write", boards, volts, unit, room] => Ok(Case::Write(make::WriteCase {
+            room: number(room)? as usize,
+            volts: small(volts)?,
+            unit: small(unit)?,
+            boards: unhex(boards).and_then(whole_boards)?,
+            note,
+        })),
+        _ => Err(String::new()),
+    }
+}
+
+fn whole_boards(bytes: Vec<u8>) -> Result<Vec<u8>, String> {
+    match bytes.len() % 44 {
+        0 => Ok(bytes),
+        over => Err(format!("{over} bytes after the last board of 44")),
+    }
+}
+
+fn replay(case: Case, command: &[String]) -> Outcome {
+    match (&case, stream::answer(&paper::Paper::AS_WRITTEN, &case)) {
+        (Case::Solve(case), Answer::Solve(due)) => replay_solve(case, &due)?,
+        (Case::Write(case), Answer::Write(due)) => {
+            println!("{:?}", due.verdict);
+            println!("output {}", compare::hex(&due.out));
+            write::readback::check(case, &due)?;
+            println!("the reader agrees");
+        }
+        _ => {}
     }
     if !command.is_empty() {
         process::one(case, command, &mut tally::Tally::default())?;
         println!("the program agrees");
+    }
+    Ok(())
+}
+
+fn replay_solve(case: &make::SolveCase, due: &SolveAnswer) -> Outcome {
+    println!("{:?}", due.verdict);
+    println!("shown {}", compare::hex(&due.shown));
+    print!("{}", figures::text(case, due));
+    if due.verdict.number == 0 {
+        laws::check(&case.net, &case.fault, &due.buffer, due.verdict.amps)?;
+        solve::check(&case.net, &case.fault, &due.buffer)?;
+        println!("laws hold, and give these numbers only");
     }
     Ok(())
 }

@@ -3,6 +3,17 @@
 //! `AS_WRITTEN` is what the paper says. The other values exist only so that `outside faults` can
 //! put one wrong sentence in at a time and show that the test sees it.
 
+/// What the writer tests, each before the next.
+#[derive(Clone, Copy)]
+pub enum WriterTest {
+    /// 3: volts, unit, the number of boards.
+    Head,
+    /// 6 to 11, record by record.
+    Boards,
+    /// 20: the output is shorter than the file.
+    Room,
+}
+
 #[derive(Clone, Copy)]
 pub struct Paper {
     /// How often zn counts in a zero-sequence term (3).
@@ -19,6 +30,8 @@ pub struct Paper {
     pub letters: usize,
     /// A label used twice is refused (7); otherwise the later entry wins.
     pub labels_unique: bool,
+    /// 7 asks for a label used earlier; otherwise one used anywhere else will do.
+    pub looks_back: bool,
     /// No earth return is "none", not an impedance of zero.
     pub none_is_none: bool,
     /// Zero sequence is shared only under the same starting record.
@@ -37,6 +50,12 @@ pub struct Paper {
     pub sum_most: i128,
     /// Phase of a fault matters.
     pub phase_counts: bool,
+    /// Most boards of a network.
+    pub most_boards: usize,
+    /// The writer's tests in their order.
+    pub writer_tests: [WriterTest; 3],
+    /// Bytes that an output must have beyond the file.
+    pub spare_room: usize,
 }
 
 impl Paper {
@@ -48,6 +67,7 @@ impl Paper {
         lag: 1,
         letters: 12,
         labels_unique: true,
+        looks_back: true,
         none_is_none: true,
         same_start_only: true,
         exchanged: 0,
@@ -57,6 +77,9 @@ impl Paper {
         zf_most: 1365,
         sum_most: 4095,
         phase_counts: true,
+        most_boards: 256,
+        writer_tests: [WriterTest::Head, WriterTest::Boards, WriterTest::Room],
+        spare_room: 0,
     };
 
     /// The rules from `first` to `last` in the order they are tested.

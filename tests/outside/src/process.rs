@@ -1,8 +1,8 @@
 //! Runs another program as `batch`: feeds cases, reads answers, compares.
 
-use crate::compare::{check, report};
+use crate::compare::{check, report, Finding};
 use crate::make::{self, Case};
-use crate::stream::{read_reply, write_case, Reply};
+use crate::stream::{read_mark, read_reply, write_case, Reply, SOLVE, WRITE};
 use crate::tally::Tally;
 use std::io::{BufReader, Read, Write};
 use std::process::{Child, ChildStdout, Command, Stdio};
@@ -14,15 +14,15 @@ const CHUNK: u64 = 4_000;
 /// What does not agree, and at which case if it is one.
 pub struct Difference {
     at: Option<(u64, Case)>,
-    pub what: String,
+    finding: Finding,
 }
 
 impl From<Difference> for String {
     fn from(d: Difference) -> String {
         let who = "the program and the outside implementation";
-        match d.at {
-            Some((index, case)) => report(who, index, &case, &d.what),
-            None => format!("DIFFERENCE between {who}: {}", d.what),
+        match &d.at {
+            Some((index, case)) => report(who, *index, case, &d.finding),
+            None => format!("DIFFERENCE between {who}: {}", d.what()),
         }
     }
 }
@@ -35,7 +35,16 @@ impl From<std::io::Error> for Difference {
 
 impl Difference {
     fn apart(what: String) -> Difference {
-        Difference { at: None, what }
+        Difference {
+            at: None,
+            finding: Finding::Program(what),
+        }
+    }
+
+    pub fn what(&self) -> &str {
+        match &self.finding {
+            Finding::Program(what) | Finding::Own(what) => what,
+        }
     }
 }
 
@@ -50,23 +59,21 @@ pub fn compare(
 ) -> Result<Ended, Difference> {
     let mut answered = 0;
     for (index, case) in cases {
-        let result = match read_reply(from)? {
+        let result = match read_reply(from, &case)? {
             Reply::Answer(got) => check(index, &case, &got, tally),
             Reply::Mark(mark) => return ended(from, answered, mark),
-            Reply::Broken(what) => Err(what),
+            Reply::Broken(what) => Err(Finding::Program(what)),
         };
-        if let Err(what) = result {
+        if let Err(finding) = result {
             let at = Some((index, case));
-            return Err(Difference { at, what });
+            return Err(Difference { at, finding });
         }
         answered += 1;
     }
-    let what = match read_reply(from)? {
-        Reply::Mark(mark) => return ended(from, answered, mark),
-        Reply::Answer(_) => "an answer too many".into(),
-        Reply::Broken(what) => format!("after the last answer: {what}"),
-    };
-    Err(Difference::apart(what))
+    match read_mark(from)? {
+        Ok(mark) => ended(from, answered, mark),
+        Err(what) => Err(Difference::apart(format!("after the last answer: {what}"))),
+    }
 }
 
 /// Nothing may follow the mark.
@@ -180,25 +187,67 @@ pub fn one(case: Case, command: &[String], tally: &mut Tally) -> Result<(), Stri
     heard(start(command, bytes)?, std::iter::once((0, case)), tally).map(|_| ())
 }
 
-/// Streams cut inside a case must give the whole cases before it and "CUT\n"; an empty one "END\n".
+/// Heads that no case may have: entry point, room, lengths of the two parts.
+const WRONG_HEADS: [[u32; 4]; 16] = [
+    [0, 0, 0, 0],
+    [3, 0, 0, 4],
+    [256 + SOLVE, 0, 0, 0],
+    [u32::MAX, 0, 0, 0],
+    [SOLVE, 6_401, 0, 0],
+    [SOLVE, 0, 16_401, 0],
+    [SOLVE, 0, 0, 65],
+    [WRITE, 16_401, 44, 4],
+    [WRITE, 52, 43, 4],
+    [WRITE, 52, 45, 4],
+    [WRITE, 8, 1, 4],
+    [WRITE, 16_400, 16_412, 4],
+    [WRITE, 52, 44, 0],
+    [WRITE, 52, 44, 3],
+    [WRITE, 52, 44, 5],
+    [WRITE, 52, 44, 20],
+];
+
+/// How a stream may end behind its whole cases, and with which mark it must be answered.
+fn ending(seed: u64, index: u64) -> (Vec<u8>, &'static [u8; 4]) {
+    let round = index / 6;
+    if index % 6 == 5 {
+        let head = WRONG_HEADS[round as usize % WRONG_HEADS.len()];
+        let mut bytes: Vec<u8> = head.iter().flat_map(|n| n.to_le_bytes()).collect();
+        // Its parts are all there, as far as there is an end to them: only the head is wrong.
+        let parts = head[2].saturating_add(head[3]).min(20_000) as usize;
+        bytes.resize(bytes.len() + parts, b' ');
+        return (bytes, b"CUT\n");
+    }
+    let mut bytes = Vec::new();
+    let case = make::case_of(round % 2 == 1, seed, index);
+    write_case(&mut bytes, &case).expect("memory takes all");
+    let length = bytes.len();
+    let keep = match index % 6 {
+        0 => 0,
+        1 => 1 + round as usize % 15,
+        2 => 16.min(length - 1),
+        3 => length - 1,
+        _ => length / 2,
+    };
+    bytes.truncate(keep);
+    (bytes, if keep == 0 { b"END\n" } else { b"CUT\n" })
+}
+
+/// Streams cut inside a case, or with a head that none may have, must give the whole cases before
+/// it and "CUT\n"; those that end behind a whole case "END\n".
 pub fn cuts(seed: u64, count: u64, command: &[String], tally: &mut Tally) -> Result<(), String> {
     for index in 0..count {
-        let whole = index % 4;
-        let from = index * 4;
+        let (whole, from) = (index % 4, index * 4);
         let mut bytes = stream_of(seed, from, from + whole);
-        let next = stream_of(seed, from + whole, from + whole + 1);
-        let keep = match index % 5 {
-            0 => 0,
-            1 => 1 + index as usize % 11,
-            2 => 12.min(next.len() - 1),
-            3 => next.len() - 1,
-            _ => next.len() / 2,
-        };
-        bytes.extend(&next[..keep]);
+        let (last, due) = ending(seed, index);
+        bytes.extend(&last);
         let cases = (from..from + whole).map(|i| (i, make::case(seed, i)));
-        let due = if keep == 0 { b"END\n" } else { b"CUT\n" };
         if heard(start(command, bytes)?, cases, tally)? != (whole, *due) {
-            return Err(format!("stream {index}, {keep} bytes of a case: wrong end"));
+            let told = &last[..last.len().min(16)];
+            return Err(format!(
+                "stream {index}, {whole} cases and {} bytes ({told:02x?}..): wrong end",
+                last.len()
+            ));
         }
     }
     Ok(())

@@ -60,8 +60,7 @@ judge-requires c κs =
     let e = c .before .before .before .before in
     let k = kept-head _ (sym (e .before .before .head-number .ensures) ∙ e .if2 .left) in
     let n = ap (λ (h : Head). h .boards) (c .before .before .before .head-of .ensures) in
-    let b = c .before .decode .ensures in
-    (n, omega (arith, k .few, n), k .size ∙ ap (λ (m : ℕ). 8 + 44 * m) (sym n), b, c .lookup-all .ensures ∙ ap placesOf (first-boards _ n b))
+    (n, omega (arith, k .few, n), k .size ∙ ap (λ (m : ℕ). 8 + 44 * m) (sym n), c .lookup-all .ensures ∙ ap placesOf (first-boards _ n (c .before .decode .ensures)))
 
 cast-refused : tie.Need-cast-refused
 cast-refused c = search needs

@@ -8,6 +8,8 @@ use borrow.Author.Needs.{needs}
 use lib.ListN.{length}
 use Rattle.node.specs.declared.Node.{Node}
 use Rattle.paper.specs.Bytes.{u16At}
+use Rattle.paper.specs.File.{boardOf}
+use Rattle.file.proofs.Decoded.{part-is, part-length}
 use Rattle.paper.specs.Chain.{noBoard}
 use Rattle.label.specs.declared.places.Places.{Places}
 use Rattle.node.specs.Node.{nodeOf, noNode}
@@ -16,22 +18,23 @@ use Rattle.node.specs.Tables.{table, emptyBoard}
 use Rattle.node.proofs.Tables.{empty-table}
 use Rattle.records.proofs.Reading.{Read, read-none, before, feeder}
 use Rattle.node.proofs.Records.{count}
-use Rattle.records.proofs.Turn.{b, own, fed, board-read, own-read, fed-read, up-read, up-fits, goes-on, refuses, all-read}
+use Rattle.records.proofs.Turn.{b, own, fed, own-read, fed-read, up-read, up-fits, goes-on, refuses, all-read}
 use Rattle.records.proofs.judge.Statement.{statement}
 use Rattle.records.proofs.judge.Tie as tie
 use Rattle.records.proofs.judge.Reads as reads
 use Rattle.records.proofs.judge.Lts as lts
 use Rattle.file.proofs.field.u16_at.Reads as u16-at-reads
+use Rattle.file.proofs.bytes.board_of.Reads as board-of-reads
 use Rattle.node.proofs.index.Reads as index-reads
 use Rattle.records.proofs.rules.earlier.Reads as earlier-reads
 use Rattle.records.proofs.rules.step.Reads as step-reads
 use Rattle.records.proofs.sums.no_node.Reads as no-node-reads
 
 abbrev Inv-loop : tie.InvT-loop
-Inv-loop net n boards none own fed nodes₀ i₀ nodes i = (i ≤ n) × Read net i nodes
+Inv-loop net n none own fed nodes₀ i₀ nodes i = (i ≤ n) × Read net i nodes
 
 abbrev μ-loop : tie.MeasureT-loop
-μ-loop net n boards none own fed nodes₀ i₀ nodes i = n - i
+μ-loop net n none own fed nodes₀ i₀ nodes i = n - i
 
 no-node-requires : tie.Need-no-node-requires Inv-loop μ-loop
 no-node-requires c κs = search needs
@@ -44,20 +47,31 @@ loop-holds c =
 add-r : tie.Need-add-r Inv-loop μ-loop
 add-r c = omega arith
 
-mul-u16-at : tie.Need-mul-u16-at Inv-loop μ-loop
-mul-u16-at c = omega arith
+mul-a : tie.Need-mul-a Inv-loop μ-loop
+mul-a c = omega arith
 
-add-u16-at : tie.Need-add-u16-at Inv-loop μ-loop
-add-u16-at c = omega arith
+add-a : tie.Need-add-a Inv-loop μ-loop
+add-a c = omega arith
+
+add-e : tie.Need-add-e Inv-loop μ-loop
+add-e c = omega arith
 
 u16-at-requires : tie.Need-u16-at-requires Inv-loop μ-loop
 u16-at-requires c κs = search needs
 
-mul-b : tie.Need-mul-b Inv-loop μ-loop
-mul-b c = omega arith
+sub-board-of : tie.Need-sub-board-of Inv-loop μ-loop
+sub-board-of c = omega arith
 
-array-copy-out-b : tie.Need-array-copy-out-b Inv-loop μ-loop
-array-copy-out-b c = omega arith
+part-board-of-start : tie.Need-part-board-of-start Inv-loop μ-loop
+part-board-of-start c = omega arith
+
+part-board-of-end : tie.Need-part-board-of-end Inv-loop μ-loop
+part-board-of-end c = omega arith
+
+board-of-requires : tie.Need-board-of-requires Inv-loop μ-loop
+board-of-requires c κs =
+    let l = c .before .before .before in
+    part-length (l .before .before .before .before .before .args .net .now) (8 + 44 * l .loop .i) (omega arith)
 
 mul-index : tie.Need-mul-index Inv-loop μ-loop
 mul-index c = omega arith
@@ -94,39 +108,39 @@ abbrev Turn : Type 0
 Turn = tie.Joined1 Inv-loop μ-loop
 
 abbrev start : Turn → tie.Start Inv-loop μ-loop
-start c = c .before .before .before .before .before .before .before .before .before .before .before .before
+start c = c .before .before .before .before .before .before .before .before .before .before .before .before .before
 
 abbrev net : Turn → List ℕ
 net c = start c .args .net .now
 
 abbrev at : Turn → ℕ
-at c = c .before .before .before .before .before .before .before .loop .i
+at c = c .before .before .before .before .before .before .before .before .loop .i
 
 abbrev nodes : Turn → List Node
-nodes c = c .before .before .before .before .before .before .before .loop .nodes
+nodes c = c .before .before .before .before .before .before .before .before .loop .nodes
 
 read : (c : Turn) → Read (net c) (at c) (nodes c)
-read c = c .before .before .before .before .before .before .before .loop .inv .1
+read c = c .before .before .before .before .before .before .before .before .loop .inv .1
 
 in-file : (c : Turn) → at c < count (net c)
-in-file c = let n = start c .pre .0 in let l = c .before .before .before .before .before .before .loop-test .taken in omega arith
+in-file c = let n = start c .pre .0 in let l = c .before .before .before .before .before .before .before .loop-test .taken in omega arith
 
 few : (c : Turn) → count (net c) ≤ 256
 few c = let n = start c .pre .0 in let l = start c .pre .1 in omega arith
 
 fed-is : (c : Turn) → c .before .before .index2 .result ≡ fed (net c) (at c) (nodes c) (in-file c) (read c) (few c)
-fed-is c = c .before .before .index2 .ensures ∙ fed-read (net c) (at c) (nodes c) (in-file c) (read c) (few c) (ap (λ (p : Places). p .fed) (start c .pre .4))
+fed-is c = c .before .before .index2 .ensures ∙ fed-read (net c) (at c) (nodes c) (in-file c) (read c) (few c) (ap (λ (p : Places). p .fed) (start c .pre .3))
 
 own-is : (c : Turn) → c .before .before .before .index .result ≡ own (net c) (at c) (nodes c) (in-file c) (read c) (few c)
-own-is c = c .before .before .before .index .ensures ∙ own-read (net c) (at c) (nodes c) (in-file c) (read c) (few c) (ap (λ (p : Places). p .own) (start c .pre .4))
+own-is c = c .before .before .before .index .ensures ∙ own-read (net c) (at c) (nodes c) (in-file c) (read c) (few c) (ap (λ (p : Places). p .own) (start c .pre .3))
 
 up-good : (c : Turn) → c .if1 .up ≡ nodeOf (before (net c) (at c) (nodes c) (in-file c) (read c)) (feeder (net c) (at c) (nodes c) (in-file c) (read c))
 up-good c =
     up-read (net c) (at c) (nodes c) (in-file c) (read c) (few c) (c .before .earlier .ensures .0 ∙ ap (earlier (at c + 1)) (fed-is c)) noNode
-    (⊎-elim (λ w. inl (w .0 .taken, w .2)) (λ w. inr (w .0 .left, w .1 ∙ c .before .before .before .before .before .before .before .before .before .before .no-node .ensures)) (c .if1 .came))
+    (⊎-elim (λ w. inl (w .0 .taken, w .2)) (λ w. inr (w .0 .left, w .1 ∙ c .before .before .before .before .before .before .before .before .before .before .before .no-node .ensures)) (c .if1 .came))
 
 step-requires : tie.Need-step-requires Inv-loop μ-loop
-step-requires c κs = (let l = c .before .before .before .before .before .before .loop-test .taken in let n = start c .pre .1 in omega arith, up-fits (net c) (at c) (nodes c) (in-file c) (read c) (few c) (up-good c))
+step-requires c κs = (let l = c .before .before .before .before .before .before .before .loop-test .taken in let n = start c .pre .1 in omega arith, up-fits (net c) (at c) (nodes c) (in-file c) (read c) (few c) (up-good c))
 
 step-is : (c : tie.After-step Inv-loop μ-loop) → let j = c .before in
     c .step .result ≡ stepOf (at j + 1) (u16At (net j) (8 + 44 * at j)) (b (net j) (at j) (nodes j) (in-file j) (read j) (few j)) (own (net j) (at j) (nodes j) (in-file j) (read j) (few j))
@@ -135,14 +149,14 @@ step-is : (c : tie.After-step Inv-loop μ-loop) → let j = c .before in
 step-is c =
     let j = c .before in
     c .step .ensures
-    ∙ (λ k. stepOf (at j + 1) (j .before .before .before .before .before .u16-at .ensures k)
-    (board-read (net j) (at j) (nodes j) (in-file j) (read j) (few j) noBoard (start j .pre .3) k)
+    ∙ (λ k. stepOf (at j + 1) (j .before .before .before .before .before .before .u16-at .ensures k)
+    ((j .before .before .before .before .board-of .ensures ∙ ap boardOf (part-is (net j) (8 + 44 * at j))) k)
     (own-is j k)
     (fed-is j k)
     (j .if1 .up))
 
-cast-t38 : tie.Need-cast-t38 Inv-loop μ-loop
-cast-t38 c = omega arith
+cast-t37 : tie.Need-cast-t37 Inv-loop μ-loop
+cast-t37 c = let j = c .before .before in omega (arith, in-file j, few j)
 
 returns : tie.Need-returns Inv-loop μ-loop
 returns c =
@@ -150,13 +164,13 @@ returns c =
     refuses (net j) (at j) (nodes j) (in-file j) (read j) (few j) (up-good j) (step-is (c .before)) (c .if2 .taken)
 
 mul-nodes : tie.Need-mul-nodes Inv-loop μ-loop
-mul-nodes c = omega arith
+mul-nodes c = let j = c .before .before .before in omega (arith, in-file j, few j)
 
 array-set-from-nodes : tie.Need-array-set-from-nodes Inv-loop μ-loop
-array-set-from-nodes c = omega arith
+array-set-from-nodes c = let j = c .before .before .before in omega (arith, in-file j, few j)
 
 add-i : tie.Need-add-i Inv-loop μ-loop
-add-i c = omega arith
+add-i c = let j = c .before .before .before in omega (arith, in-file j, few j)
 
 loop-less : tie.Need-loop-less Inv-loop μ-loop
 loop-less c = omega arith
@@ -164,7 +178,7 @@ loop-less c = omega arith
 loop-again : tie.Need-loop-again Inv-loop μ-loop
 loop-again c =
     let j = c .before .before .before in
-    let l = j .before .before .before .before .before .before .loop-test .taken in
+    let l = j .before .before .before .before .before .before .before .loop-test .taken in
     (omega arith, goes-on (net j) (at j) (nodes j) (in-file j) (read j) (few j) (up-good j) (step-is (c .before .before)) (c .before .if2 .left))
 
 returns-2 : tie.Need-returns-2 Inv-loop μ-loop
@@ -182,11 +196,14 @@ judge-spec =
     no-node-requires
     loop-holds
     add-r
-    mul-u16-at
-    add-u16-at
+    mul-a
+    add-a
+    add-e
     u16-at-requires
-    mul-b
-    array-copy-out-b
+    sub-board-of
+    part-board-of-start
+    part-board-of-end
+    board-of-requires
     mul-index
     array-read-index
     index-requires
@@ -198,7 +215,7 @@ judge-spec =
     mul-up
     array-copy-out-up
     step-requires
-    cast-t38
+    cast-t37
     returns
     mul-nodes
     array-set-from-nodes

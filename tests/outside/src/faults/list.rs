@@ -1,35 +1,14 @@
-//! The deliberate faults, and beside each what is done to the paper's network and fault to show it.
+//! The deliberate faults of `solve`, and beside each what is done to the paper's network and fault
+//! to show it.
 
-use super::Fault::{Order, Output, Reading, Stream};
-use super::{Fault, Row};
-use crate::figures::paper_records;
+use super::Fault::{Order, Reading, Solved, Stream};
+use super::{Fault, Made, Row};
+use crate::compare::Witness;
 use crate::judge::{refusal, room_needed, FAULT, NETWORK};
 use crate::make::labels::label;
 use crate::make::model::Draft;
-use crate::make::Case;
-use crate::stream::{filled, Answer};
-
-/// The paper's network with phase a of HALL to earth, and one number more than the answer needs.
-pub fn paper_case() -> Draft {
-    let recs = paper_records();
-    Draft {
-        mark: *b"HD",
-        volts: 230,
-        unit: 1000,
-        count: recs.len() as u16,
-        room: room_needed(recs.len()) + 1,
-        up: vec![None, Some(0), Some(0)],
-        recs,
-        net_length: None,
-        fault_mark: *b"FT",
-        fault_label: label(b"HALL"),
-        fault_kind: 1,
-        phase: 0,
-        zf: [0, 0],
-        fault_length: None,
-        filler: 0,
-    }
-}
+use crate::make::SolveCase;
+use crate::stream::solve::{filled, SolveAnswer};
 
 fn as_it_is(_: &mut Draft) {}
 
@@ -51,23 +30,17 @@ fn nowhere() -> [u8; 12] {
 }
 
 // Who must see a fault beside the comparison. `laws` look at values and amps, `solve` at values.
-const NOBODY: [bool; 2] = [false, false];
-const LAWS: [bool; 2] = [true, false];
-const BOTH: [bool; 2] = [true, true];
+const NOBODY: &[Witness] = &[];
+const LAWS: &[Witness] = &[Witness::Laws];
+const BOTH: &[Witness] = &[Witness::Laws, Witness::Solve];
 
-fn row(name: &'static str, fault: Fault, case: fn(&mut Draft), alone: [bool; 2]) -> Row {
+fn row(name: &'static str, fault: Fault, case: fn(&mut Draft), alone: &'static [Witness]) -> Row {
     Row {
         name,
         fault,
-        case,
+        made: Made::Solve(case),
         alone,
     }
-}
-
-pub fn rows() -> Vec<Row> {
-    let mut rows = drawn();
-    rows.extend(streams());
-    rows
 }
 
 /// Those that any case may show, not only the one made for it.
@@ -181,7 +154,7 @@ fn readings() -> Vec<Row> {
 
 /// Damage to the numbers of an answer.
 fn values() -> Vec<Row> {
-    let output = |name, damage, case, alone| row(name, Output(damage), case, alone);
+    let output = |name, damage, case, alone| row(name, Solved(damage), case, alone);
     vec![
         output("last number off by one", last_off, as_it_is, BOTH),
         output("amps one less", amps_less, as_it_is, LAWS),
@@ -209,7 +182,7 @@ fn values() -> Vec<Row> {
 
 /// Damage to what an answer says beside its numbers.
 fn verdicts() -> Vec<Row> {
-    let output = |name, damage, case| row(name, Output(damage), case, NOBODY);
+    let output = |name, damage, case| row(name, Solved(damage), case, NOBODY);
     let fault_refused = |d: &mut Draft| d.fault_mark = *b"TF";
     vec![
         output("fault's length before the network", length_first, |d| {
@@ -240,7 +213,7 @@ fn verdicts() -> Vec<Row> {
 }
 
 /// In the stream of HALL's answer the shown bytes, 44 of them, start at 32.
-fn streams() -> Vec<Row> {
+pub fn streams() -> Vec<Row> {
     let stream = |name, damage| row(name, Stream(damage), as_it_is, NOBODY);
     vec![
         stream("shown bytes left out of the stream", |s| {
@@ -327,7 +300,7 @@ fn orders() -> Vec<Row> {
     ]
 }
 
-fn length_first(a: &mut Answer, case: &Case) {
+fn length_first(a: &mut SolveAnswer, case: &SolveCase) {
     let length = case.fault.len();
     if (1..12).contains(&a.verdict.number) && length != 20 {
         a.verdict = refusal(12, 0, FAULT, 0, length);
@@ -335,58 +308,58 @@ fn length_first(a: &mut Answer, case: &Case) {
     }
 }
 
-fn part_short(a: &mut Answer, _: &Case) {
+fn part_short(a: &mut SolveAnswer, _: &SolveCase) {
     a.shown.pop();
     a.verdict.length = a.shown.len() as u32;
 }
 
-fn shown_off(a: &mut Answer, _: &Case) {
+fn shown_off(a: &mut SolveAnswer, _: &SolveCase) {
     a.shown.iter_mut().last().into_iter().for_each(|b| *b ^= 1);
 }
 
-fn shown_other(a: &mut Answer, case: &Case) {
+fn shown_other(a: &mut SolveAnswer, case: &SolveCase) {
     if accepted(a).is_some() {
         a.shown = case.net[8..52].to_vec();
     }
 }
 
-fn accepted(a: &Answer) -> Option<usize> {
+fn accepted(a: &SolveAnswer) -> Option<usize> {
     (a.verdict.number == 0).then(|| room_needed(a.verdict.boards as usize))
 }
 
-fn last_off(a: &mut Answer, _: &Case) {
+fn last_off(a: &mut SolveAnswer, _: &SolveCase) {
     if let Some(need) = accepted(a) {
         a.buffer[need - 1] += 1;
     }
 }
 
-fn amps_less(a: &mut Answer, _: &Case) {
+fn amps_less(a: &mut SolveAnswer, _: &SolveCase) {
     a.verdict.amps = a.verdict.amps.saturating_sub(1);
 }
 
-fn write_on_refusal(a: &mut Answer, _: &Case) {
+fn write_on_refusal(a: &mut SolveAnswer, _: &SolveCase) {
     if accepted(a).is_none() && !a.buffer.is_empty() {
         a.buffer[0] = 0;
     }
 }
 
-fn write_after(a: &mut Answer, _: &Case) {
+fn write_after(a: &mut SolveAnswer, _: &SolveCase) {
     if let Some(next) = accepted(a).filter(|&n| n < a.buffer.len()) {
         a.buffer[next] = 0;
     }
 }
 
-fn buffer_short(a: &mut Answer, _: &Case) {
+fn buffer_short(a: &mut SolveAnswer, _: &SolveCase) {
     a.buffer.pop();
 }
 
-fn count_on_refusal(a: &mut Answer, case: &Case) {
+fn count_on_refusal(a: &mut SolveAnswer, case: &SolveCase) {
     if accepted(a).is_none() && a.verdict.whose != NETWORK {
         a.verdict.boards = (case.net.len() as u32 - 8) / 44;
     }
 }
 
-fn exchanged(a: &mut Answer, _: &Case) {
+fn exchanged(a: &mut SolveAnswer, _: &SolveCase) {
     if accepted(a).is_some() {
         (0..4).for_each(|i| a.buffer.swap(5 + i, 9 + i));
     }
@@ -401,7 +374,7 @@ fn gcd(a: u64, b: u64) -> u64 {
 }
 
 /// Keeps every law: only the paper's "not reduced" is broken.
-fn reduced(a: &mut Answer, _: &Case) {
+fn reduced(a: &mut SolveAnswer, _: &SolveCase) {
     if let Some(need) = accepted(a) {
         let numbers = &mut a.buffer[..need];
         let common = numbers.iter().fold(0, |g, x| gcd(g, x.unsigned_abs()));
@@ -409,19 +382,19 @@ fn reduced(a: &mut Answer, _: &Case) {
     }
 }
 
-fn reversed(a: &mut Answer, _: &Case) {
+fn reversed(a: &mut SolveAnswer, _: &SolveCase) {
     if let Some(need) = accepted(a) {
         let boards = a.buffer[13..need].chunks_mut(24);
         boards.for_each(|b| b[12..].iter_mut().for_each(|x| *x = -*x));
     }
 }
 
-fn first_only(a: &mut Answer, _: &Case) {
+fn first_only(a: &mut SolveAnswer, _: &SolveCase) {
     if let Some(need) = accepted(a) {
         a.buffer[37..need].fill(0);
     }
 }
 
-fn as_found(a: &mut Answer, _: &Case) {
+fn as_found(a: &mut SolveAnswer, _: &SolveCase) {
     a.buffer = filled(a.buffer.len());
 }

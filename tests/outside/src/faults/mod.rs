@@ -6,14 +6,21 @@
 //! drawn, so nothing depends on a seed; `hunt` says how soon the drawn cases meet the same faults.
 
 mod list;
+mod writer;
 
-use crate::compare::alone;
+use crate::compare::{alone, Witness};
+use crate::figures::paper_records;
+use crate::judge::room_needed;
+use crate::make::labels::label;
 use crate::make::model::Draft;
-use crate::make::{self, Case};
+use crate::make::{self, Case, SolveCase, WriteCase};
 use crate::paper::Paper;
 use crate::process::compare;
+use crate::stream::solve::SolveAnswer;
+use crate::stream::write::WriteAnswer;
 use crate::stream::{answer, write_answer, Answer};
 use crate::tally::Tally;
+use crate::write::file_length;
 
 enum Fault {
     /// A wrong reading of the paper: the judge is run with one sentence changed.
@@ -21,18 +28,82 @@ enum Fault {
     /// This rule and the next tested in the wrong order.
     Order(u32),
     /// Damage to a right answer.
-    Output(fn(&mut Answer, &Case)),
+    Solved(fn(&mut SolveAnswer, &SolveCase)),
+    Written(fn(&mut WriteAnswer, &WriteCase)),
     /// Damage to the stream of a right answer.
     Stream(fn(&mut Vec<u8>)),
+}
+
+/// Makes of the paper's network a case that shows the fault.
+enum Made {
+    /// With an earth fault at HALL, and one number more than the answer needs.
+    Solve(fn(&mut Draft)),
+    /// To be written, in one byte more than the file needs.
+    Write(fn(&mut Draft)),
+}
+
+impl Made {
+    fn case(&self, note: &str) -> Case {
+        let mut draft = paper_draft();
+        match self {
+            Made::Solve(change) => {
+                draft.room = room_needed(draft.recs.len()) + 1;
+                change(&mut draft);
+                Case::Solve(make::finish(draft, note))
+            }
+            Made::Write(change) => {
+                draft.room = file_length(draft.recs.len()) + 1;
+                // A mark that is none: what stands there is not to be looked at.
+                draft.recs.iter_mut().for_each(|r| r.mark = *b"xy");
+                change(&mut draft);
+                Case::Write(make::finish_file(&draft, note))
+            }
+        }
+    }
+}
+
+/// The paper's network with phase a of HALL to earth.
+fn paper_draft() -> Draft {
+    let recs = paper_records();
+    Draft {
+        mark: *b"HD",
+        volts: 230,
+        unit: 1000,
+        count: recs.len() as u16,
+        room: 0,
+        up: vec![None, Some(0), Some(0)],
+        recs,
+        net_length: None,
+        fault_mark: *b"FT",
+        fault_label: label(b"HALL"),
+        fault_kind: 1,
+        phase: 0,
+        zf: [0, 0],
+        fault_length: None,
+        filler: 0,
+    }
 }
 
 struct Row {
     name: &'static str,
     fault: Fault,
-    /// Makes of the paper's network and an earth fault at HALL a case that shows the fault.
-    case: fn(&mut Draft),
-    /// Whether `laws` and `solve`, each alone and without the judge, must see it too.
-    alone: [bool; 2],
+    made: Made,
+    /// Who must see it too, each alone and without the judge's own answer.
+    alone: &'static [Witness],
+}
+
+fn rows() -> Vec<Row> {
+    let mut rows = drawn();
+    rows.extend(list::streams());
+    rows.extend(writer::streams());
+    rows
+}
+
+/// Those that any case may show, not only the one made for it.
+fn drawn() -> Vec<Row> {
+    let mut rows = list::drawn();
+    rows.extend(writer::drawn());
+    rows
 }
 
 impl Row {
@@ -41,11 +112,13 @@ impl Row {
         match self.fault {
             Fault::Reading(change) => change(&mut paper),
             Fault::Order(rule) => paper.exchanged = rule,
-            Fault::Output(_) | Fault::Stream(_) => {}
+            _ => {}
         }
         let mut a = answer(&paper, case);
-        if let Fault::Output(damage) = self.fault {
-            damage(&mut a, case);
+        match (&self.fault, &mut a, case) {
+            (Fault::Solved(damage), Answer::Solve(a), Case::Solve(case)) => damage(a, case),
+            (Fault::Written(damage), Answer::Write(a), Case::Write(case)) => damage(a, case),
+            _ => {}
         }
         let mut bytes = stream(&a);
         if let Fault::Stream(damage) = self.fault {
@@ -56,9 +129,7 @@ impl Row {
 
     /// What the comparison says of the fault; or what is wrong with the comparison.
     fn tried(&self) -> Result<String, String> {
-        let mut draft = list::paper_case();
-        (self.case)(&mut draft);
-        let case = make::finish(draft, self.name);
+        let case = self.made.case(self.name);
         let right = stream(&answer(&Paper::AS_WRITTEN, &case));
         if let Some(what) = complaint(&case, &right) {
             let beside = format!("the right answer beside '{}'", self.name);
@@ -68,12 +139,18 @@ impl Row {
         let fault = format!("the deliberate fault '{}'", self.name);
         let what = complaint(&case, &bytes).ok_or(format!("{fault} was not caught"))?;
         let seen = alone(&case, &got);
-        for (i, who) in ["laws", "solve"].iter().enumerate() {
-            if self.alone[i] && !seen[i] {
-                return Err(format!("{fault} was not caught by `{who}` alone"));
-            }
+        match self.alone.iter().find(|who| !seen.contains(who)) {
+            Some(who) => Err(format!("{fault} was not caught by {}", name(*who))),
+            None => Ok(what),
         }
-        Ok(what)
+    }
+}
+
+fn name(who: Witness) -> &'static str {
+    match who {
+        Witness::Laws => "laws alone",
+        Witness::Solve => "solve alone",
+        Witness::ReadBack => "the reader alone",
     }
 }
 
@@ -91,23 +168,19 @@ fn complaint(case: &Case, mut bytes: &[u8]) -> Option<String> {
     match compare(&mut bytes, cases, &mut Tally::default()) {
         Ok((1, mark)) if &mark == b"END\n" => None,
         Ok((n, mark)) => Some(format!("{:?} after {n}", String::from_utf8_lossy(&mark))),
-        Err(difference) => Some(difference.what),
+        Err(difference) => Some(difference.what().into()),
     }
 }
 
 /// All faults; none may go by.
 pub fn all() -> Result<(), String> {
     let mut missed = Vec::new();
-    let rows = list::rows();
+    let rows = rows();
     for row in &rows {
         match row.tried() {
             Ok(what) => {
-                let also = match row.alone {
-                    [true, true] => ", also by laws alone and solve alone",
-                    [true, false] => ", also by laws alone",
-                    _ => "",
-                };
-                println!("caught  {}{also}", row.name);
+                let also = row.alone.iter().map(|who| format!(", by {}", name(*who)));
+                println!("caught  {}{}", row.name, also.collect::<String>());
                 println!("          {}", what.replace('\n', "\n          "));
             }
             Err(what) => missed.push(format!(
@@ -126,7 +199,7 @@ pub fn all() -> Result<(), String> {
 /// How soon the drawn cases of a seed meet the faults: a measure of the maker, no self-test.
 pub fn hunt(seed: u64, count: u64) -> Result<(), String> {
     let mut unmet = Vec::new();
-    for row in list::drawn() {
+    for row in drawn() {
         let met = (0..count).find(|&index| {
             let case = make::case(seed, index);
             complaint(&case, &row.wrong(&case).1).is_some()

@@ -7,7 +7,7 @@ use crate::ring::Num;
 /// The records from board `r` back to the source, both included.
 pub fn chain(grid: &Grid, r: usize) -> Vec<usize> {
     // A feeder is an earlier record, and record 1 has none before it: this ends.
-    std::iter::successors(Some(r), |&q| grid.boards[q].up).collect()
+    std::iter::successors(Some(r), |&q| grid.up[q]).collect()
 }
 
 /// The part of the chain that zero sequence runs over, down from its starting record; or none.

@@ -1,6 +1,7 @@
 //! Rules 12 to 19: the fault's bytes, and room for the answer.
 
-use super::network::{word, Grid};
+use super::board::word;
+use super::network::Grid;
 use super::{chains, refusal, room_needed, Verdict, FAULT};
 use crate::paper::Paper;
 use crate::ring::Num;

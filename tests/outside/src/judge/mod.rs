@@ -3,6 +3,7 @@
 
 pub mod amps;
 pub mod answer;
+pub mod board;
 pub mod chains;
 pub mod fault;
 pub mod network;

@@ -1,116 +1,105 @@
-//! Rules 1 to 11: the network's bytes.
+//! Rules 1 to 11: the network's bytes. The writer asks 3 and 6 to 11 too, so these look at
+//! decoded boards and not at bytes.
 
+use super::board::{word, Board, HEAD, RECORD};
 use super::{refusal, Verdict, NETWORK};
 use crate::paper::Paper;
 use crate::ring::Num;
 use std::collections::HashMap;
 
-/// One record, decoded whether sound or not; the rules look at it afterwards.
-pub struct Board {
-    pub mark: [u8; 2],
-    pub label: Vec<u8>,
-    pub feeder: Vec<u8>,
-    pub kind: u8,
-    pub clock: u8,
-    /// r and x of z1, z2, z0, zn.
-    pub parts: [u16; 8],
-    /// The record that carries the feeder's label, if an earlier one does.
-    pub up: Option<usize>,
-    /// An earlier record carries the same label.
-    pub again: bool,
-}
-
-impl Board {
-    /// Impedance 0 to 3: z1, z2, z0, zn.
-    pub fn z(&self, which: usize) -> Num {
-        let p = &self.parts[2 * which..];
-        Num::ohms(p[0].into(), p[1].into())
-    }
-}
-
+/// Boards and how they hang together.
 pub struct Grid {
     pub volts: u16,
     pub unit: u16,
     pub boards: Vec<Board>,
+    /// The record that carries the feeder's label, if an earlier one does.
+    pub up: Vec<Option<usize>>,
+    /// An earlier record carries the same label.
+    pub again: Vec<bool>,
     /// Label (the letters that count) to record.
     pub places: HashMap<Vec<u8>, usize>,
 }
 
-pub fn word(bytes: &[u8], at: usize) -> u16 {
-    u16::from_le_bytes([bytes[at], bytes[at + 1]])
-}
-
 pub fn read(paper: &Paper, net: &[u8]) -> Result<Grid, Verdict> {
-    let count = head(paper, net)?;
-    let (boards, places) = decode(paper, net, count);
-    let grid = Grid {
-        volts: word(net, 2),
-        unit: word(net, 4),
-        boards,
-        places,
-    };
-    match first_broken(paper, &grid) {
-        Some((rule, r)) => Err(refusal(rule, r + 1, NETWORK, 8 + 44 * r, 44)),
+    head(paper, net)?;
+    let records = &net[HEAD..];
+    let boards = Board::decode_all(records);
+    let grid = join(paper, word(net, 2), word(net, 4), boards);
+    let marked = |r: usize| records[RECORD * r..].starts_with(b"BD");
+    match first_broken(paper, &grid, (5, 11), marked) {
+        Some((rule, r)) => Err(refusal(rule, r + 1, NETWORK, HEAD + RECORD * r, RECORD)),
         None => Ok(grid),
     }
 }
 
-/// Rules 1 to 4; the number of boards.
-fn head(paper: &Paper, net: &[u8]) -> Result<usize, Verdict> {
+/// Rules 1 to 4.
+fn head(paper: &Paper, net: &[u8]) -> Result<(), Verdict> {
     for rule in paper.order(1, 4) {
-        if breaks_head(rule, net) {
-            let part = if rule == 1 { net.len() } else { 8 };
+        if breaks_head(paper, rule, net) {
+            let part = if rule == 1 { net.len() } else { HEAD };
             return Err(refusal(rule, 0, NETWORK, 0, part));
         }
     }
-    Ok(usize::from(word(net, 6)))
+    Ok(())
 }
 
-fn breaks_head(rule: u32, net: &[u8]) -> bool {
+fn breaks_head(paper: &Paper, rule: u32, net: &[u8]) -> bool {
     match rule {
-        1 => net.len() < 8,
+        1 => net.len() < HEAD,
         2 => net.get(..2) != Some(b"HD"),
-        3 => {
-            let volts = (1..=1000).contains(&word(net, 2));
-            let unit = (10..=1000).contains(&word(net, 4));
-            !(volts && unit && (1..=256).contains(&word(net, 6)))
-        }
-        _ => net.len() != 8 + 44 * usize::from(word(net, 6)),
+        3 => !head_fits(paper, word(net, 2), word(net, 4), word(net, 6).into()),
+        _ => net.len() != HEAD + RECORD * usize::from(word(net, 6)),
     }
 }
 
-type Places = HashMap<Vec<u8>, usize>;
+/// Rule 3.
+pub fn head_fits(paper: &Paper, volts: u16, unit: u16, count: usize) -> bool {
+    let volts_fit = (1..=1000).contains(&volts);
+    let unit_fits = (10..=1000).contains(&unit);
+    volts_fit && unit_fits && (1..=paper.most_boards).contains(&count)
+}
 
-/// Labels go into the map as the records pass, so a feeder can only be found among earlier ones.
-fn decode(paper: &Paper, net: &[u8], count: usize) -> (Vec<Board>, Places) {
-    let mut places = Places::new();
-    let mut boards = Vec::with_capacity(count);
-    for (r, b) in net[8..].chunks_exact(44).enumerate() {
-        let label = b[2..14].to_vec();
-        let key = label[..paper.letters].to_vec();
-        let up = places.get(&b[14..14 + paper.letters]).copied();
-        let again = places.contains_key(&key);
-        if !again || !paper.labels_unique {
+/// Labels go into the map as the boards pass, so a feeder can only be found among earlier ones.
+pub fn join(paper: &Paper, volts: u16, unit: u16, boards: Vec<Board>) -> Grid {
+    let mut places = HashMap::new();
+    let (mut up, mut again) = (Vec::new(), Vec::new());
+    for (r, b) in boards.iter().enumerate() {
+        let key = b.label[..paper.letters].to_vec();
+        let used = places.contains_key(&key);
+        up.push(places.get(&b.feeder[..paper.letters]).copied());
+        again.push(used);
+        if !used || !paper.labels_unique {
             places.insert(key, r);
         }
-        boards.push(Board {
-            mark: [b[0], b[1]],
-            label,
-            feeder: b[14..26].to_vec(),
-            kind: b[26],
-            clock: b[27],
-            parts: std::array::from_fn(|i| word(b, 28 + 2 * i)),
-            up,
-            again,
-        });
     }
-    (boards, places)
+    if !paper.looks_back {
+        let same = |a: &Board| boards.iter().filter(|b| b.label == a.label).count();
+        again = boards.iter().map(|a| same(a) > 1).collect();
+    }
+    Grid {
+        volts,
+        unit,
+        boards,
+        up,
+        again,
+        places,
+    }
 }
 
-/// The first broken rule of 5 to 11 and the index of its record.
-fn first_broken(paper: &Paper, grid: &Grid) -> Option<(u32, usize)> {
-    let (count, rules) = (grid.boards.len(), paper.order(5, 11));
-    let broken = |rule: u32, r: usize| breaks(paper, grid, rule, r).then_some((rule, r));
+/// The first broken rule of `from` to `to` and the index of its record. Whether a record has its
+/// mark (5) only the reader can say.
+pub fn first_broken(
+    paper: &Paper,
+    grid: &Grid,
+    (from, to): (u32, u32),
+    marked: impl Fn(usize) -> bool,
+) -> Option<(u32, usize)> {
+    let (count, rules) = (grid.boards.len(), paper.order(from, to));
+    let breaks = |rule: u32, r: usize| match rule {
+        5 => !marked(r),
+        _ => breaks(paper, grid, rule, r),
+    };
+    let broken = |rule: u32, r: usize| breaks(rule, r).then_some((rule, r));
     if paper.record_by_record {
         return (0..count).find_map(|r| rules.iter().find_map(|&rule| broken(rule, r)));
     }
@@ -119,14 +108,14 @@ fn first_broken(paper: &Paper, grid: &Grid) -> Option<(u32, usize)> {
         .find_map(|&rule| (0..count).find_map(|r| broken(rule, r)))
 }
 
+/// Rules 6 to 11.
 fn breaks(paper: &Paper, grid: &Grid, rule: u32, r: usize) -> bool {
     let b = &grid.boards[r];
     match rule {
-        5 => &b.mark != b"BD",
         6 => !well_formed(&b.label),
-        7 => paper.labels_unique && b.again,
+        7 => paper.labels_unique && grid.again[r],
         8 if r == 0 => b.feeder != [b' '; 12],
-        8 => b.up.is_none(),
+        8 => grid.up[r].is_none(),
         9 => !kind_fits(b, r),
         10 => b.parts.iter().any(|&p| p > 4095) || !keeps_kind_rule(b),
         _ => super::chains::sums(paper, grid, r).over(paper.sum_most),

@@ -1,11 +1,11 @@
 //! Damage without aim: cut and lengthened files, one bit, records out of order, noise.
 
 use super::model::Draft;
-use super::{finish, sound, Case, MOST_FAULT};
+use super::{finish, sound, SolveCase, MOST_FAULT};
 use crate::rng::Rng;
 
 /// Files cut anywhere, or with bytes after the end.
-pub fn lengths(rng: &mut Rng) -> Case {
+pub fn lengths(rng: &mut Rng) -> SolveCase {
     let mut case = finish(sound::draft(rng), "length");
     let bytes = if rng.permille(700) {
         &mut case.net
@@ -23,7 +23,7 @@ pub fn lengths(rng: &mut Rng) -> Case {
 }
 
 /// One bit of network or fault turned over; often a field's high bit matters, so any may be it.
-pub fn one_bit(rng: &mut Rng) -> Case {
+pub fn one_bit(rng: &mut Rng) -> SolveCase {
     let mut case = finish(sound::draft(rng), "one bit");
     let bytes = if rng.permille(650) {
         &mut case.net
@@ -35,9 +35,18 @@ pub fn one_bit(rng: &mut Rng) -> Case {
     case
 }
 
-/// Records exchanged, repeated, or left out (with the count put right or not).
-pub fn moved_records(rng: &mut Rng) -> Case {
+/// Records out of order, with the count put right or not.
+pub fn moved_records(rng: &mut Rng) -> SolveCase {
     let mut draft = sound::draft(rng);
+    shuffle(rng, &mut draft);
+    if rng.permille(800) {
+        draft.count = draft.recs.len() as u16;
+    }
+    finish(draft, "moved records")
+}
+
+/// Two records exchanged, one repeated, or one left out.
+pub fn shuffle(rng: &mut Rng, draft: &mut Draft) {
     let count = draft.recs.len();
     let (a, b) = (rng.below(count), rng.below(count));
     match rng.below(3) {
@@ -50,14 +59,10 @@ pub fn moved_records(rng: &mut Rng) -> Case {
             draft.recs.remove(a);
         }
     }
-    if rng.permille(800) {
-        draft.count = draft.recs.len() as u16;
-    }
-    finish(draft, "moved records")
 }
 
 /// One field set to a value that is on some edge of the paper.
-pub fn odd_field(rng: &mut Rng) -> Case {
+pub fn odd_field(rng: &mut Rng) -> SolveCase {
     const EDGES: [u16; 18] = [
         0, 1, 2, 9, 10, 11, 255, 256, 257, 999, 1000, 1001, 1365, 1366, 4095, 4096, 32768, 65535,
     ];
@@ -92,7 +97,7 @@ fn bytes(rng: &mut Rng, count: usize) -> Vec<u8> {
 }
 
 /// Noise, from nothing right at all to noise behind a right head and right marks.
-pub fn noise(rng: &mut Rng) -> Case {
+pub fn noise(rng: &mut Rng) -> SolveCase {
     let boards = rng.range(1, 4);
     let sound = finish(sound::draft(rng), "noise");
     let mut net = match rng.below(4) {
@@ -119,7 +124,7 @@ pub fn noise(rng: &mut Rng) -> Case {
     };
     // Sometimes the network is sound and only the fault is noise.
     let net = if rng.permille(300) { sound.net } else { net };
-    Case {
+    SolveCase {
         room: rng.below(60),
         net,
         fault,

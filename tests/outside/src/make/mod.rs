@@ -2,15 +2,25 @@
 
 mod aim;
 mod damage;
+mod file;
 pub mod labels;
 pub mod model;
 mod sound;
 
 use self::model::Draft;
+use crate::judge::board::RECORD;
 use crate::rng::Rng;
 
+/// One call, of either entry point.
 #[derive(Clone)]
-pub struct Case {
+pub enum Case {
+    Solve(SolveCase),
+    Write(WriteCase),
+}
+
+#[derive(Clone)]
+pub struct SolveCase {
+    /// Numbers of the answer buffer.
     pub room: usize,
     pub net: Vec<u8>,
     pub fault: Vec<u8>,
@@ -18,21 +28,57 @@ pub struct Case {
     pub note: String,
 }
 
+#[derive(Clone)]
+pub struct WriteCase {
+    /// Bytes of the output.
+    pub room: usize,
+    pub volts: u16,
+    pub unit: u16,
+    /// Each board as a record of 44 bytes; nobody looks at the marks.
+    pub boards: Vec<u8>,
+    pub note: String,
+}
+
 pub const MOST_NET: usize = 16_400;
 pub const MOST_FAULT: usize = 64;
 pub const MOST_ROOM: usize = 6_400;
+pub const MOST_BOARDS: usize = 372;
+pub const MOST_OUT: usize = 16_400;
 
-/// Case `index` of `seed`, without making those before it.
+/// Case `index` of `seed`, without making those before it. One in five is to be written.
 pub fn case(seed: u64, index: u64) -> Case {
     let mut rng = Rng::for_case(seed, index);
-    let mut case = mixed(&mut rng);
+    match rng.below(5) {
+        0 => Case::Write(to_write(&mut rng)),
+        _ => Case::Solve(to_solve(&mut rng)),
+    }
+}
+
+/// The same, but of one entry point, whichever the seed would have drawn.
+pub fn case_of(write: bool, seed: u64, index: u64) -> Case {
+    let mut rng = Rng::for_case(seed, index);
+    match write {
+        true => Case::Write(to_write(&mut rng)),
+        false => Case::Solve(to_solve(&mut rng)),
+    }
+}
+
+fn to_write(rng: &mut Rng) -> WriteCase {
+    let mut case = file::mixed(rng);
+    case.boards.truncate(RECORD * MOST_BOARDS);
+    case.room = case.room.min(MOST_OUT);
+    case
+}
+
+fn to_solve(rng: &mut Rng) -> SolveCase {
+    let mut case = mixed(rng);
     case.net.truncate(MOST_NET);
     case.fault.truncate(MOST_FAULT);
     case.room = case.room.min(MOST_ROOM);
     case
 }
 
-fn mixed(rng: &mut Rng) -> Case {
+fn mixed(rng: &mut Rng) -> SolveCase {
     match rng.below(1000) {
         0..=559 => finish(sound::draft(rng), "sound"),
         560..=789 => broken(rng, 1),
@@ -46,8 +92,8 @@ fn mixed(rng: &mut Rng) -> Case {
     }
 }
 
-pub fn finish(draft: Draft, note: &str) -> Case {
-    Case {
+pub fn finish(draft: Draft, note: &str) -> SolveCase {
+    SolveCase {
         room: draft.room,
         net: draft.net_bytes(),
         fault: draft.fault_bytes(),
@@ -55,8 +101,19 @@ pub fn finish(draft: Draft, note: &str) -> Case {
     }
 }
 
+/// The same draft as a network to be written, in `draft.room` bytes.
+pub fn finish_file(draft: &Draft, note: &str) -> WriteCase {
+    WriteCase {
+        room: draft.room,
+        volts: draft.volts,
+        unit: draft.unit,
+        boards: draft.recs.iter().flat_map(|r| r.bytes()).collect(),
+        note: note.into(),
+    }
+}
+
 /// One to three rules broken at once; the second is often the next rule, where order shows most.
-fn broken(rng: &mut Rng, count: usize) -> Case {
+fn broken(rng: &mut Rng, count: usize) -> SolveCase {
     let mut draft = sound::draft(rng);
     let mut note = String::from("broken");
     let mut last = 0;

@@ -31,7 +31,7 @@ fn part(rng: &mut Rng, size: Size, most: u32) -> u32 {
     drawn.min(most) as u32
 }
 
-fn boards(rng: &mut Rng) -> usize {
+pub fn boards(rng: &mut Rng) -> usize {
     match rng.below(1000) {
         0..=3 => 256,
         4..=7 => rng.range(61, 255),
@@ -176,12 +176,12 @@ fn empty(rng: &mut Rng, count: usize) -> Draft {
     }
 }
 
-fn network(rng: &mut Rng) -> Draft {
-    let count = boards(rng);
+/// `count` boards, also more than a file may have; none where it is 0.
+pub fn network(rng: &mut Rng, count: usize) -> Draft {
     let mut draft = empty(rng, count);
     let names = labels::distinct(rng, count);
     let (mut shape, mix, usual) = (rng.below(7), rng.below(6), size(rng));
-    if count == 256 && rng.coin() {
+    if count >= 256 && rng.coin() {
         // The deepest chain there can be.
         shape = 0;
     }
@@ -256,7 +256,8 @@ fn room(rng: &mut Rng, count: usize) -> usize {
 }
 
 pub fn draft(rng: &mut Rng) -> Draft {
-    let mut draft = network(rng);
+    let count = boards(rng);
+    let mut draft = network(rng, count);
     fault(rng, &mut draft);
     draft.room = room(rng, draft.recs.len());
     draft

@@ -2,7 +2,7 @@
 use native.Mathlib.Omega.{arith}
 use borrow.Author.Needs.{needs}
 use lib.ListN.{length-set}
-use Rattle.decimal.proofs.Stored.{little-length, four-stored}
+use Rattle.decimal.proofs.Stored.{little-length, stored}
 use Rattle.decimal.proofs.little.put_four.Statement.{statement}
 use Rattle.decimal.proofs.little.put_four.Tie as tie
 
@@ -46,7 +46,7 @@ same-length : tie.Need-same-length
 same-length c = search needs
 
 returns : tie.Need-returns
-returns c = four-stored _ _ _ (c .pre)
+returns c = stored 4 _ _ _ (c .pre)
 
 pub put-four-spec : {M : Type 1} → statement M
 put-four-spec =

@@ -58,7 +58,7 @@ use Rattle.label.proofs.places.Places as P
 use Rattle.label.proofs.places.Places.Laws as P′
 use Rattle.label.proofs.Rest.{start, offset-fits, next-fits, fewer, by-test}
 use Rattle.label.proofs.Filled.{filled, filled-none, filled-long, filled-next, filled-all}
-use Rattle.label.proofs.PlacesNumbers.{numbers, number-vals, zeros, both, numbers-typed, apart, together}
+use Rattle.label.proofs.PlacesNumbers.{numbers, number-vals, zeros, both, numbers-typed, taken-apart, together}
 use Rattle.label.proofs.Calls.{Find, finds}
 use Rattle.label.proofs.search.find.Symbol as find-def
 use Rattle.label.proofs.search.find.Symbol.{name as #find}
@@ -278,8 +278,8 @@ module _ {M : Type 1} (𝓤 : URA M) (H : Heap 𝓤) (A : Atoms 𝓤) (W : Given
       assigns ! (rep ! 256 (lit ! tt)) (from ! (stop !)) (init ! 28 refl (numbers-typed 𝓤 H A W (replicate 256 0) _ zeros)) $
       assigns ! (of-opd ! (lit ! tt)) (from ! (stop !)) (init ! 26 refl (tt, record { fits = lit< tt })) $
       rewrite ! 26 (λ (j : ℕ). ‵ (fat fullShare word l₄ 0 (vint w64 j))) start refl $
-      move ! (28 ∷ []) $ use1 W (‵ (row u16 fullShare (replicate 256 0) l₃ 0)) (apart 𝓤 H A W (replicate 256 0) _ l₃ zeros) $ rewrite ! 0 (λ (xs : List ℕ). ‵ (row u16 fullShare xs l₃ 0)) (filled-none fed ys) refl $
-      move ! (30 ∷ []) $ use1 W (‵ (row u16 fullShare (replicate 256 0) l₂ 0)) (apart 𝓤 H A W (replicate 256 0) _ l₂ zeros) $ rewrite ! 0 (λ (xs : List ℕ). ‵ (row u16 fullShare xs l₂ 0)) (filled-none own ys) refl $
+      move ! (28 ∷ []) $ use1 W (‵ (row u16 fullShare (replicate 256 0) l₃ 0)) (taken-apart 𝓤 H A W (replicate 256 0) _ l₃ zeros) $ rewrite ! 0 (λ (xs : List ℕ). ‵ (row u16 fullShare xs l₃ 0)) (filled-none fed ys) refl $
+      move ! (30 ∷ []) $ use1 W (‵ (row u16 fullShare (replicate 256 0) l₂ 0)) (taken-apart 𝓤 H A W (replicate 256 0) _ l₂ zeros) $ rewrite ! 0 (λ (xs : List ℕ). ‵ (row u16 fullShare xs l₂ 0)) (filled-none own ys) refl $
       move ! (37 ∷ []) $ fsplit ! $ move ! (38 ∷ []) $ split ! $
       -- [token; true; Own; true; own's row; fed's row; _17; …]
       keep ! (0 ∷ 2 ∷ 4 ∷ 5 ∷ 6 ∷ 7 ∷ 8 ∷ 9 ∷ 10 ∷ 11 ∷ 12 ∷ 13 ∷ 14 ∷ 15 ∷ 16 ∷ 17 ∷ 18 ∷ 19 ∷ 20 ∷ 21 ∷ 22 ∷ 23 ∷ 24 ∷ 25 ∷ 26 ∷ 27 ∷ 28 ∷ 29 ∷ 30 ∷ 31 ∷ 32 ∷ 33 ∷ 34 ∷ 35 ∷ 36 ∷ 37 ∷ 38 ∷ 39 ∷ []) $

@@ -1,0 +1,151 @@
+/* Whether both writers agree: in every reply and in every byte of the output, those behind the file too. */
+#include "bench.h"
+#include <stdio.h>
+#include <string.h>
+
+/* what is written: up to two boards more than a file can have */
+typedef struct {
+    uint16_t volts, unit;
+    ranjupeli_board boards[258];
+    size_t n;
+} list;
+
+enum { ROOM = MOST_BYTES + 64 };
+static uint8_t ours[ROOM], exact[ROOM];
+static int numbers[256];
+
+static int same_bytes(void) {
+    for (size_t i = 0; i < ROOM; i++)
+        if (ours[i] != exact[i]) {
+            printf("the exact writer leaves %d at byte %zu, not %d\n", exact[i], i, ours[i]);
+            return 0;
+        }
+    return 1;
+}
+
+static int writers_agree(const list *l, size_t room) {
+    for (size_t i = 0; i < ROOM; i++)
+        ours[i] = exact[i] = (uint8_t)(i * 7 + 3);
+    ranjupeli_written a = ranjupeli_write(l->volts, l->unit, l->boards, l->n, ours, room);
+    ranjupeli_written b = exact_write(l->volts, l->unit, l->boards, l->n, exact, room);
+    if (a.number != b.number || a.place != b.place || a.len != b.len) {
+        printf("the exact writer differs: %d %d %zu, not %d %d %zu\n", b.number, b.place, b.len, a.number, a.place, a.len);
+        return 0;
+    }
+    numbers[a.number]++;
+    return same_bytes();
+}
+
+/* Exactly the file's length, one byte less, some more, and none. */
+static int in_every_room(const list *l) {
+    size_t len = l->n <= 256 ? RANJUPELI_FILE(l->n) : MOST_BYTES;
+    return writers_agree(l, len) && writers_agree(l, len - 1) && writers_agree(l, len + 1 + chance(60)) && writers_agree(l, 0) ? 4 : 0;
+}
+
+static void listed(list *l, const question *q) {
+    memset(l, 0, sizeof *l);
+    l->volts = VOLTS;
+    l->unit = UNIT;
+    memcpy(l->boards, q->boards, sizeof q->boards);
+    l->n = q->n;
+}
+
+int agree_on_file(const question *q) {
+    static list l;
+    listed(&l, q);
+    if (!in_every_room(&l) || !writers_agree(&l, q->network_len))
+        return 0;
+    if (memcmp(ours, q->network, q->network_len) == 0)
+        return 5;
+    printf("what is written of %zu boards is not their file\n", q->n);
+    return 0;
+}
+
+static void spoil_head(list *l) {
+    static const uint16_t edges[] = {0, 1, 9, 10, 1000, 1001, 65535};
+    switch (chance(3)) {
+    case 0:
+        l->volts = edges[chance(7)];
+        break;
+    case 1:
+        l->unit = edges[chance(7)];
+        break;
+    default:
+        l->n = chance(259);
+    }
+}
+
+static void spoil_board(list *l) {
+    ranjupeli_board *b = &l->boards[chance((uint32_t)l->n)], *other = &l->boards[chance((uint32_t)l->n)];
+    ranjupeli_ohms *z[4] = {&b->z1, &b->z2, &b->z0, &b->zn};
+    switch (chance(8)) {
+    case 0:
+        memcpy(b->label, other->label, 12);
+        break;
+    case 1:
+        memcpy(b->feeder, other->label, 12);
+        break;
+    case 2:
+        b->kind = (uint8_t)chance(8);
+        break;
+    case 3:
+        b->clock = (uint8_t)chance(14);
+        break;
+    case 4:
+        z[chance(4)]->r = (uint16_t)chance(chance(2) ? 3 : 4100);
+        break;
+    case 5:
+        b->z1.x = b->z2.x = (uint16_t)chance(4100);
+        break;
+    case 6:
+        z[2 + chance(2)]->x = (uint16_t)chance(1500);
+        break;
+    default:
+        ((uint8_t *)b)[chance(sizeof *b)] = (uint8_t)chance(256);
+    }
+}
+
+/* One to three fields changed: most of them refused, each time by another rule. */
+static int spoilt(const question *q) {
+    static list l;
+    int tried = 0;
+    for (int i = 0; i < 200; i++) {
+        listed(&l, q);
+        for (uint32_t changes = 1 + chance(3); changes && l.n; changes--)
+            if (chance(8))
+                spoil_board(&l);
+            else
+                spoil_head(&l);
+        int more = in_every_room(&l);
+        if (!more)
+            return 0;
+        tried += more;
+    }
+    return tried;
+}
+
+/* Every number that a writer has must have come. */
+static int all_came(void) {
+    for (int number = 0; number < 256; number++) {
+        int has = number == 0 || number == 3 || (number >= 6 && number <= 11) || number == 20;
+        if (has != (numbers[number] > 0)) {
+            printf("the writers said %d %d times\n", number, numbers[number]);
+            return 0;
+        }
+    }
+    return 1;
+}
+
+int agree_on_many_files(void) {
+    static question q;
+    int tried = 0;
+    for (int shape = 0; shape < SHAPES; shape++)
+        for (int n = 1; n <= 256; n = n < 8 ? n + 1 : 2 * n) {
+            make_network(&q, shape, n);
+            int sound = agree_on_file(&q), more = sound ? spoilt(&q) : 0;
+            if (!more)
+                return 0;
+            tried += sound + more;
+        }
+    return all_came() ? tried : 0;
+}

@@ -1,0 +1,88 @@
+// The file's bytes, laid down in the lent buffer.
+// Each `put_..` writes from a place on and returns the place behind.
+ghost use mathlib.Core.List.{_++_};
+ghost use Prim.Native.Nat.{_≤_};
+ghost use lib.ListN.{take};
+ghost use Rattle.paper.specs.Write.{ohmsBytes, headBytes, boardBytes, boardsBytes};
+ghost use Rattle.decimal.specs.Wrote.{Room, Wrote};
+use decimal::little::put_two;
+use decimal::put_byte;
+use decimal::put_bytes;
+use file::field::BD;
+use file::field::HD;
+use paper::Board;
+use paper::Head;
+use paper::Ohms;
+
+fn put_ohms(out: &mut [u8], at: usize, z: Ohms) -> usize
+    requires { ⌜ Room at (ohmsBytes z) (now out) ⌝ }
+    ensures { λ r. ⌜ Wrote at (ohmsBytes z) (now (out .entry)) (now (out .exit)) r ⌝ }
+{
+    let a = put_two(out, at, z.r);
+    put_two(out, a, z.x)
+}
+
+// Lent whole: a copy of known length becomes two stores.
+fn put_label(out: &mut [u8], at: usize, l: [u8; 12]) -> usize
+    requires { ⌜ Room at l (now out) ⌝ }
+    ensures { λ r. ⌜ Wrote at l (now (out .entry)) (now (out .exit)) r ⌝ }
+{
+    put_bytes(out, at, &l)
+}
+
+// The labels and impedances are bound before anything is written: a call takes no field that is an array or a struct.
+pub(crate) fn put_board(out: &mut [u8], at: usize, b: Board) -> usize
+    requires { ⌜ Room at (boardBytes b) (now out) ⌝ }
+    ensures { λ r. ⌜ Wrote at (boardBytes b) (now (out .entry)) (now (out .exit)) r ⌝ }
+{
+    let label = b.label;
+    let feeder = b.feeder;
+    let z1 = b.z1;
+    let z2 = b.z2;
+    let z0 = b.z0;
+    let zn = b.zn;
+    let p = put_two(out, at, BD);
+    let p1 = put_label(out, p, label);
+    let p2 = put_label(out, p1, feeder);
+    let p3 = put_byte(out, p2, b.kind);
+    let p4 = put_byte(out, p3, b.clock);
+    let p5 = put_ohms(out, p4, z1);
+    let p6 = put_ohms(out, p5, z2);
+    let p7 = put_ohms(out, p6, z0);
+    put_ohms(out, p7, zn)
+}
+
+fn put_head(out: &mut [u8], at: usize, h: Head) -> usize
+    requires { ⌜ Room at (headBytes h) (now out) ⌝ }
+    ensures { λ r. ⌜ Wrote at (headBytes h) (now (out .entry)) (now (out .exit)) r ⌝ }
+{
+    let a = put_two(out, at, HD);
+    let b = put_two(out, a, h.volts);
+    let c = put_two(out, b, h.unit);
+    put_two(out, c, h.boards)
+}
+
+// Of the table the first n, a board a turn. Behind them it holds empty places, which are no part of the file.
+fn put_boards(out: &mut [u8], at: usize, boards: [Board; 256], n: usize) -> usize
+    requires { ⌜ (n ≤ 256) × Room at (boardsBytes (take n boards)) (now out) ⌝ }
+    ensures { λ r. ⌜ Wrote at (boardsBytes (take n boards)) (now (out .entry)) (now (out .exit)) r ⌝ }
+{
+    let mut end = at;
+    let mut i: usize = 0;
+    while i < n {
+        let b = boards[i];
+        end = put_board(out, end, b);
+        i += 1;
+    }
+    end
+}
+
+// The head says how many of the table's boards the file has, so that its N and its boards cannot differ.
+pub(crate) fn put_file(out: &mut [u8], head: Head, boards: [Board; 256]) -> usize
+    requires { ⌜ (head .boards ≤ 256) × Room 0 (headBytes head ++ boardsBytes (take (head .boards) boards)) (now out) ⌝ }
+    ensures { λ r. ⌜ Wrote 0 (headBytes head ++ boardsBytes (take (head .boards) boards)) (now (out .entry)) (now (out .exit)) r ⌝ }
+{
+    let n = head.boards as usize;
+    let a = put_head(out, 0, head);
+    put_boards(out, a, boards, n)
+}
