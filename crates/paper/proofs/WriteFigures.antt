@@ -74,7 +74,7 @@ hall kind clock z1 z2 = board "HALL" "GEN" kind clock z1 z2 (j 20) (j 0)
 abbrev lop : Board
 lop = board "GEN" "" 0 0 (ohms 3 2020) (ohms 1 1111) (ohms 259 5) (ohms 1 6)
 
--- record 1 of 01's figures alone, and all three
+-- the three boards of 01's figures, and their file
 abbrev three : Boards
 three = gen ∷ board "BOOTH-WEST-1" "GEN" 2 0 (ohms 30 10) (ohms 30 10) (ohms 90 30) (j 0) ∷ hall 4 11 (j 20) (j 20) ∷ []
 

@@ -42,12 +42,17 @@ headFor volts unit bs = record { volts = volts; unit = unit; boards = length bs 
 unfoldable pub fileOf : ℕ → ℕ → Boards → List ℕ
 fileOf volts unit bs = headBytes (headFor volts unit bs) ++ boardsBytes bs
 
--- ---- the refusals: "with 3 and 6 to 11 in the reader's order"; "20, output shorter than the file, after all others"
+-- ---- the refusals
+-- "20, output shorter than the file": of n boards
+abbrev pub tooShort : ℕ → ℕ → Option Refusal
+tooShort n room = first (row 20 (ltb room (fileSize n)) 0 noPart ∷ [])
+
+-- "with 3 and 6 to 11 in the reader's order"; 20 "after all others"
 unfoldable pub writeRefusal : ℕ → ℕ → Boards → ℕ → Option Refusal
 writeRefusal volts unit bs room =
     first (row 3 (not (headRanges (headFor volts unit bs))) 0 noPart ∷ [])
     then boardsRefusal [] bs
-    then first (row 20 (ltb room (fileSize (length bs))) 0 noPart ∷ [])
+    then tooShort (length bs) room
 
 -- ---- what the caller gets
 -- accepted: the file's length

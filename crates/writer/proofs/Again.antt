@@ -1,20 +1,18 @@
 -- A network that the reader accepts, written again: its own bytes. Assumes nothing.
 use mathlib.Core.List.{List, [], _∷_, _++_}
 use mathlib.Core.Option.{none}
-use mathlib.Core.Path.{_≡_, refl, sym, _∙_, ap, ap₂}
-use Prim.Native.Nat.{ℕ, zero, suc, _+_, _*_, _≤_, _<_}
+use mathlib.Core.Path.{_≡_, refl, _∙_, ap, ap₂}
+use Prim.Native.Nat.{ℕ, zero, suc, _+_, _*_, _<_}
 use native.Mathlib.Omega.{arith}
-use lib.ListN.{length, getD, take, drop, length-take, length-drop, take-append-drop}
+use lib.ListN.{length, take, drop, length-take, length-drop, take-append-drop}
 use lib.Seq.{length-take-le, getD-take, getD-drop}
-use Rattle.paper.specs.declared.Head.{Head}
-use Rattle.paper.specs.declared.Board.{Board}
 use Rattle.paper.specs.Rows.{first, _then_}
 use Rattle.paper.specs.Bytes.{bytesAt}
 use Rattle.paper.specs.Bounds.{AtMost}
 use Rattle.paper.specs.File.{headOf, ohmsAt, boardOf, records, recordsOf, decoded, boardsOf}
 use Rattle.paper.specs.Chain.{Boards}
 use Rattle.paper.specs.Refusal.{headRows, recordRefusal, inOrder, recordsRefusal, networkRefusal}
-use Rattle.paper.specs.Write.{headBytes, boardBytes, boardsBytes, headFor, fileOf}
+use Rattle.paper.specs.Write.{headBytes, boardsBytes, headFor, fileOf}
 use Rattle.follows.proofs.Rows.{then-none}
 use Rattle.follows.proofs.Accepted.{Network, accepted-network, record-tested}
 use Rattle.writer.specs.RoundTrip.{Typed, AllTyped, Bytes}

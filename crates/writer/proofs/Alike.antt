@@ -1,14 +1,13 @@
 -- "The writer refuses .. exactly the boards whose file the reader would refuse": one equation between the two refusals, with the reader's number and place. Assumes nothing.
-use mathlib.Core.Bool.{Bool, true, false, not, cond}
+use mathlib.Core.Bool.{Bool, true, false, not}
 use mathlib.Core.List.{List, [], _∷_, _++_}
 use mathlib.Core.Option.{Option, none, some}
 use mathlib.Core.Path.{_≡_, refl, sym, _∙_, ap, ap₂}
-use Prim.Native.Nat.{ℕ, suc, _+_, _*_, _≤_, _<_}
+use Prim.Native.Nat.{ℕ, suc, _+_, _≤_}
 use native.Mathlib.Omega.{arith}
 use lib.Dec.{ltb, eqb}
 use lib.ListN.{length}
 use borrow.Author.Tests.{le-ltb, eq-eqb}
-use Rattle.paper.specs.declared.Board.{Board}
 use Rattle.paper.specs.declared.Head.{Head}
 use Rattle.paper.specs.declared.Lent.the-variants.{NetworkBytes}
 use Rattle.paper.specs.declared.Refusal.{Refusal}
@@ -16,9 +15,9 @@ use Rattle.paper.specs.Rows.{Test, test, row, rowsAt, first, _then_}
 use Rattle.paper.specs.File.{markOf, HD, headOf, fileSize, recordsOf}
 use Rattle.paper.specs.Chain.{Boards}
 use Rattle.paper.specs.Refusal.{allOf, theHead, headRanges, headRows, noPart, boardTests, boardRefusal, inOrder, boardsRefusal, recordsRefusal, networkRefusal}
-use Rattle.paper.specs.Write.{headFor, fileOf, writeRefusal}
+use Rattle.paper.specs.Write.{tooShort, headFor, fileOf, writeRefusal}
 use Rattle.follows.proofs.Rows.{some-none}
-use Rattle.writer.specs.RoundTrip.{AllTyped, unshown, tooShort}
+use Rattle.writer.specs.RoundTrip.{AllTyped, unshown}
 use Rattle.writer.proofs.File.{file-long, file-mark, file-head, file-records}
 use Rattle.writer.proofs.Shown.{shown, all-shown}
 

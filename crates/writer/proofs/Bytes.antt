@@ -1,7 +1,7 @@
 -- The file's fields, laid down and read back, and read and laid down again: a number, a board, a head. Assumes nothing.
-use mathlib.Core.List.{List, [], _∷_, _++_, append-assoc}
+use mathlib.Core.List.{List, [], _∷_, _++_}
 use mathlib.Core.Path.{_≡_, refl, sym, _∙_, ap}
-use Prim.Native.Nat.{ℕ, zero, suc, _+_, _*_, _/_, _%_, _≤_, _<_}
+use Prim.Native.Nat.{ℕ, _+_, _*_, _/_, _%_, _≤_, _<_}
 use native.Mathlib.Omega.{arith}
 use lib.ListN.{length, getD, take, drop, length-append, take-append-drop}
 use lib.Seq.{getD-append-seam, append-snoc, length-take-le, take-all}
@@ -12,7 +12,7 @@ use Rattle.paper.specs.declared.Board.{Board}
 use Rattle.paper.specs.Bytes.{u8At, u16At, bytesAt}
 use Rattle.paper.specs.Kind.{ohms}
 use Rattle.paper.specs.Bounds.{AtMost}
-use Rattle.paper.specs.File.{markOf, HD, BD, headOf, ohmsAt, boardOf}
+use Rattle.paper.specs.File.{markOf, HD, BD, headOf, boardOf}
 use Rattle.paper.specs.Write.{headBytes, boardBytes}
 use Rattle.writer.specs.RoundTrip.{Typed, Bytes}
 

@@ -1,14 +1,13 @@
 -- The file of boards, read: its head and its records are theirs. Assumes nothing.
-use mathlib.Core.List.{List, [], _∷_, _++_}
-use mathlib.Core.Path.{_≡_, refl, sym, _∙_, ap, ap₂}
-use Prim.Native.Nat.{ℕ, zero, suc, _+_, _*_, _/_, _%_, _≤_, _<_}
+use mathlib.Core.List.{List, [], _∷_}
+use mathlib.Core.Path.{_≡_, refl, _∙_, ap, ap₂}
+use Prim.Native.Nat.{ℕ, _*_, _≤_}
 use native.Mathlib.Omega.{arith}
-use lib.ListN.{length, getD, take, drop, length-append}
+use lib.ListN.{length, length-append}
 use lib.Seq.{take-at, drop-at}
 use Rattle.lemmas.specs.Little.{little}
 use Rattle.paper.specs.declared.Head.{Head}
-use Rattle.paper.specs.declared.Board.{Board}
-use Rattle.paper.specs.File.{markOf, HD, BD, headOf, boardOf, fileSize, records, recordsOf, decoded, boardsOf}
+use Rattle.paper.specs.File.{markOf, HD, headOf, fileSize, records, recordsOf, decoded, boardsOf}
 use Rattle.paper.specs.Chain.{Boards}
 use Rattle.paper.specs.Write.{headBytes, boardBytes, boardsBytes, headFor, fileOf}
 use Rattle.writer.specs.RoundTrip.{AllTyped}

@@ -1,12 +1,12 @@
 -- A table of boards that were given: what its head, its judgement and the room say of the paper's refusal. Assumes nothing.
 use mathlib.Core.Bool.{Bool, true, false, not, _&&_}
-use mathlib.Core.List.{List, [], _∷_, _++_}
+use mathlib.Core.List.{List, [], _++_}
 use mathlib.Core.Option.{Option, none, some}
-use mathlib.Core.Path.{_≡_, refl, sym, _∙_, ap, subst}
+use mathlib.Core.Path.{_≡_, refl, sym, _∙_, ap}
 use Prim.Native.Nat.{ℕ, zero, suc, min, _+_, _*_, _≤_, _<_}
 use native.Mathlib.Decide.{decLe}
 use native.Mathlib.Omega.{arith}
-use lib.Dec.{ltb, leb}
+use lib.Dec.{leb}
 use lib.ListN.{length, take, drop}
 use lib.Seq.{take-at, take-all, length-take-le}
 use borrow.Author.Tests.{lt-ltb, le-ltb, le-leb, lt-leb, not-false}
@@ -16,19 +16,19 @@ use Rattle.paper.specs.declared.Head.{Head}
 use Rattle.paper.specs.declared.Refusal.{Refusal}
 use Rattle.paper.specs.declared.Written.{Written}
 use Rattle.paper.specs.Bytes.{within}
-use Rattle.paper.specs.Rows.{row, first, _then_}
+use Rattle.paper.specs.Rows.{first, _then_}
 use Rattle.paper.specs.File.{headOf, fileSize, recordsOf, boardsOf}
 use Rattle.paper.specs.Chain.{Boards}
 use Rattle.paper.specs.Refusal.{headRanges, noPart, boardsRefusal, recordsRefusal}
-use Rattle.paper.specs.Write.{headBytes, boardsBytes, headFor, fileOf, writeRefusal, writeAnswer, writeVerdict, fills, writeLeaves}
-use Rattle.follows.proofs.Accepted.{HeadRanges, head-ranges}
+use Rattle.paper.specs.Write.{tooShort, headBytes, boardsBytes, headFor, fileOf, writeRefusal, writeAnswer, writeVerdict, fills, writeLeaves}
+use Rattle.follows.proofs.Accepted.{head-ranges}
 use Rattle.node.specs.Tables.{table, emptyBoard}
 use Rattle.records.specs.declared.Judged.{Judged}
 use Rattle.records.specs.Judgement.{Judgement}
 use Rattle.decimal.specs.Wrote.{Room, Wrote}
 use Rattle.decimal.proofs.Writes.{wrote-length}
 use Rattle.writer.specs.Given.{Given}
-use Rattle.writer.specs.RoundTrip.{AllTyped, unshown, tooShort}
+use Rattle.writer.specs.RoundTrip.{AllTyped, unshown}
 use Rattle.label.specs.declared.places.Places.{Places}
 use Rattle.label.specs.Places.{placesOf}
 use Rattle.writer.proofs.File.{file-long, file-head, file-boards}

@@ -1,6 +1,5 @@
 -- What each contract of this crate rules out: a call that it allows, and an answer that it does not. The rows of `write` are said of its caller `write_first`, which has the same contract. Assumes nothing.
 use mathlib.Core.List.{List, [], _∷_, _++_}
-use mathlib.Core.Path.{_≡_}
 use Prim.Native.Nat.{ℕ, min}
 use lib.Dec.{lit≤}
 use lib.ListN.{length, take, replicate}

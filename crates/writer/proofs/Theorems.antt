@@ -3,7 +3,7 @@
 --     2 written-again   "writing what was read gives the same bytes"
 --     3 refused-alike   "The writer refuses .. exactly the boards whose file the reader would refuse", with its number and place (in Alike.antt); too-many, where no file could say so many
 --     4 nothing-written, behind-kept, as-long   "A refusal writes nothing, and bytes after the file keep their values."
-use mathlib.Core.Bool.{Bool, true, false, not}
+use mathlib.Core.Bool.{false, not}
 use mathlib.Core.List.{List, [], _∷_, _++_}
 use mathlib.Core.Option.{Option, none, some}
 use mathlib.Core.Path.{_≡_, refl, sym, _∙_, ap, subst}
@@ -15,16 +15,15 @@ use lib.Seq.{take-at, drop-at}
 use borrow.Author.Tests.{le-ltb, ltb-false, not-false}
 use Rattle.paper.specs.declared.Head.{Head}
 use Rattle.paper.specs.declared.Refusal.{Refusal}
-use Rattle.paper.specs.declared.Written.{Written}
 use Rattle.paper.specs.Rows.{row, first, _then_}
 use Rattle.paper.specs.File.{headOf, fileSize, boardsOf}
 use Rattle.paper.specs.Chain.{Boards}
 use Rattle.paper.specs.Refusal.{headRanges, noPart, boardsRefusal, networkRefusal}
-use Rattle.paper.specs.Write.{headFor, fileOf, writeRefusal, writeAnswer, writeVerdict, fills, writeLeaves}
+use Rattle.paper.specs.Write.{tooShort, headFor, fileOf, writeRefusal, writeAnswer, writeVerdict, fills, writeLeaves}
 use Rattle.lemmas.proofs.Bools.{untrue}
 use Rattle.follows.proofs.Rows.{clear, then-none}
 use Rattle.follows.proofs.Accepted.{HeadRanges, head-ranges, Network, accepted-network}
-use Rattle.writer.specs.RoundTrip.{AllTyped, Bytes, ReadBack, unshown, tooShort}
+use Rattle.writer.specs.RoundTrip.{AllTyped, Bytes, ReadBack, unshown}
 use Rattle.writer.proofs.File.{file-long, file-head, file-boards}
 use Rattle.writer.proofs.Alike.{unshown-none, refused-alike}
 use Rattle.writer.proofs.Again.{read-typed, file-again}

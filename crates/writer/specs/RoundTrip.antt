@@ -3,18 +3,16 @@ use mathlib.Core.List.{List, [], _∷_}
 use mathlib.Core.Option.{Option, none, some}
 use mathlib.Core.Path.{_≡_}
 use Prim.Native.Nat.{ℕ, _≤_, _<_}
-use lib.Dec.{ltb}
 use lib.ListN.{length, getD}
 use Rattle.paper.specs.declared.Board.{Board}
 use Rattle.paper.specs.declared.Refusal.{Refusal}
 use Rattle.paper.specs.Bounds.{AtMost}
-use Rattle.paper.specs.Rows.{row, first}
-use Rattle.paper.specs.File.{headOf, fileSize, boardsOf}
+use Rattle.paper.specs.File.{headOf, boardsOf}
 use Rattle.paper.specs.Chain.{Boards}
 use Rattle.paper.specs.Refusal.{noPart, networkRefusal}
 use Rattle.paper.specs.Write.{headFor}
 
--- ---- what the types of a call's arguments say: twelve bytes to a label, two to a number. The boards of every call are so (proofs/, `table-in-type`)
+-- ---- what types say of boards, twelve bytes to a label and two to a number, and of bytes. Every table of boards that a call holds is so (proofs/, `table-in-type`)
 pub record Typed (b : Board) : Type 0 where
   pub label-12 : length (b .label) ≡ 12
   pub feeder-12 : length (b .feeder) ≡ 12
@@ -40,7 +38,3 @@ pub record ReadBack (volts unit : ℕ) (bs : Boards) (net : List ℕ) : Type 0 w
 unfoldable pub unshown : Option Refusal → Option Refusal
 unshown none = none
 unshown (some r) = some (record { part = noPart; place = r .place; number = r .number })
-
--- "20, output shorter than the file"
-abbrev pub tooShort : ℕ → ℕ → Option Refusal
-tooShort n room = first (row 20 (ltb room (fileSize n)) 0 noPart ∷ [])
