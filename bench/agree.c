@@ -74,9 +74,11 @@ int agree_on_many(void) {
         for (int n = 1; n <= 256; n = n < 8 ? n + 1 : 2 * n) {
             make_network(&q, shape, n);
             int more = each_fault(&q, n), torn = damaged(&q);
-            if (!more || !torn)
+            unearth(&q);
+            int bare = each_fault(&q, n);
+            if (!more || !torn || !bare)
                 return 0;
-            asked += more + torn;
+            asked += more + torn + bare;
         }
     return asked;
 }

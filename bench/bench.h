@@ -15,6 +15,7 @@ typedef struct {
 
 extern const char *const shape_names[SHAPES];
 void make_network(question *q, int shape, int n);
+void unearth(question *q);
 void make_fault(question *q, int k, int kind, int phase, int r, int x);
 uint32_t chance(uint32_t below);
 

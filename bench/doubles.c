@@ -32,9 +32,14 @@ static cx over_z(cx n, cx z) {
     return n * complex(r * by, -x * by);
 }
 
+/* An earth fault at a board without earth return. */
+static int unearthed(const board *b, const fault *f) {
+    return !b->earthed && (f->kind == 1 || f->kind == 3);
+}
+
 static sequences short_circuit(const board *b, const fault *f) {
     cx z1 = of(b->z1), z2 = of(b->z2), zf = of(f->zf), g = of(b->z0) + 3 * zf, i, by;
-    switch (f->kind) {
+    switch (unearthed(b, f) ? 3 + f->kind : f->kind) {
     case 0:
         return (sequences){over_z(1, z1 + zf), 0, 0};
     case 1:
@@ -43,10 +48,23 @@ static sequences short_circuit(const board *b, const fault *f) {
     case 2:
         i = over_z(1, z1 + z2 + zf);
         return (sequences){i, -i, 0};
+    case 4: /* one phase to earth: no current */
+        return (sequences){0, 0, 0};
+    case 6: /* two phases to earth: as clear of it, without Zf */
+        i = over_z(1, z1 + z2);
+        return (sequences){i, -i, 0};
     default:
         by = over_z(1, z1 * z2 + (z1 + z2) * g);
         return (sequences){(z2 + g) * by, -g * by, -z2 * by};
     }
+}
+
+/* What a part without earth return is lifted by, in zero sequence. */
+static cx lift_of(const board *b, const fault *f, const sequences *i) {
+    if (!unearthed(b, f))
+        return 0;
+    cx w = 1 - of(b->z1) * i->s1;
+    return f->kind == 1 ? -w : w;
 }
 
 static void phases(cx *out, int p, int d, const sequences *x) {
@@ -56,8 +74,10 @@ static void phases(cx *out, int p, int d, const sequences *x) {
     }
 }
 
-static void put_board(cx *out, const standing *b, const sequences *i, int p) {
+static void put_board(cx *out, const standing *b, const sequences *i, cx lift, int p) {
     sequences w = {1 - of(b->s.z1) * i->s1, -of(b->s.z2) * i->s2, -of(b->s.z0) * i->s0};
+    if (b->joined)
+        w.s0 += lift;
     phases(out, p, b->d, &w);
     if (!b->on) {
         memset(out + 3, 0, 3 * sizeof *out);
@@ -80,10 +100,11 @@ static uint64_t amps(const network *w, const fault *f, const sequences *i) {
 static void put_boards(cx *out, const network *w, const fault *f, const sequences *i) {
     uint8_t on[BOARDS];
     shared shares[BOARDS];
+    cx lift = lift_of(&w->boards[f->k - 1], f, i);
     mark_chain(on, w, f->k);
     for (size_t j = 0; j < w->n; j++) {
         standing b = stands(w, f, on, shares, j);
-        put_board(out + 3 + 6 * j, &b, i, f->phase);
+        put_board(out + 3 + 6 * j, &b, i, lift, f->phase);
     }
 }
 

@@ -33,11 +33,18 @@ static plane times(plane a, plane b) {
     return (plane){a.r * b.r - a.x * b.x, a.r * b.x + a.x * b.r};
 }
 
+static const plane one = {1, 0}, nil = {0, 0};
+
+/* An earth fault at a board without earth return. */
+static int unearthed(const board *b, const fault *f) {
+    return !b->earthed && (f->kind == 1 || f->kind == 3);
+}
+
 /* The fault's currents over D, and D. */
 static int64_t short_circuit(sequences *i, const board *b, const fault *f) {
-    plane z1 = of(b->z1), z2 = of(b->z2), zf = of(f->zf), one = {1, 0}, nil = {0, 0};
+    plane z1 = of(b->z1), z2 = of(b->z2), zf = of(f->zf);
     plane g = {b->z0.r + 3 * zf.r, b->z0.x + 3 * zf.x}, n;
-    switch (f->kind) {
+    switch (unearthed(b, f) ? 3 + f->kind : f->kind) {
     case 0:
         n = add(z1, zf);
         *i = (sequences){one, nil, nil};
@@ -50,6 +57,14 @@ static int64_t short_circuit(sequences *i, const board *b, const fault *f) {
         n = add(add(z1, z2), zf);
         *i = (sequences){one, minus(one), nil};
         break;
+    case 4: /* one phase to earth: no current */
+        n = one;
+        *i = (sequences){nil, nil, nil};
+        break;
+    case 6: /* two phases to earth: as clear of it, without Zf */
+        n = add(z1, z2);
+        *i = (sequences){one, minus(one), nil};
+        break;
     default:
         n = add(times(z1, z2), times(add(z1, z2), g));
         *i = (sequences){add(z2, g), minus(g), minus(z2)};
@@ -57,6 +72,14 @@ static int64_t short_circuit(sequences *i, const board *b, const fault *f) {
     plane conjugate = {n.r, -n.x};
     *i = (sequences){times(i->s1, conjugate), times(i->s2, conjugate), times(i->s0, conjugate)};
     return n.r * n.r + n.x * n.x;
+}
+
+/* What a part without earth return is lifted by, in zero sequence, over D. */
+static plane lift_of(const board *b, const fault *f, int64_t D, const sequences *i) {
+    if (!unearthed(b, f))
+        return nil;
+    plane drop = times(of(b->z1), i->s1), w = {D - drop.r, -drop.x};
+    return f->kind == 1 ? minus(w) : w;
 }
 
 /* x0 + x1 t + x2 t^2 + x3 t^3 */
@@ -93,9 +116,11 @@ static void phases(int64_t *out, int p, int d, const sequences *x) {
     put_sum(out + 4 * ((p + 2) % 3), y0, by_4(y1), by_8(y2));
 }
 
-static void put_board(int64_t *out, const standing *b, int64_t D, const sequences *i, int p) {
+static void put_board(int64_t *out, const standing *b, int64_t D, const sequences *i, plane lift, int p) {
     plane drop = times(of(b->s.z1), i->s1);
     sequences w = {{D - drop.r, -drop.x}, minus(times(of(b->s.z2), i->s2)), minus(times(of(b->s.z0), i->s0))};
+    if (b->joined)
+        w.s0 = add(w.s0, lift);
     phases(out, p, b->d, &w);
     if (!b->on) {
         memset(out + 12, 0, 12 * sizeof *out);
@@ -103,14 +128,14 @@ static void put_board(int64_t *out, const standing *b, int64_t D, const sequence
     }
     sequences c = *i;
     if (!b->earth)
-        c.s0 = (plane){0, 0};
+        c.s0 = nil;
     phases(out + 12, p, b->d, &c);
 }
 
 /* The greatest n with n n den <= num: a guess in doubles, put right by whole numbers. */
 static uint64_t amps(const network *w, const board *b, const fault *f, int64_t D) {
     uint64_t z2 = (uint64_t)b->z2.r * b->z2.r + (uint64_t)b->z2.x * b->z2.x;
-    uint64_t factor = f->kind == 0 ? 1 : f->kind == 1 ? 9 : f->kind == 2 ? 3 : 9 * z2;
+    uint64_t factor = unearthed(b, f) ? 0 : f->kind == 0 ? 1 : f->kind == 1 ? 9 : f->kind == 2 ? 3 : 9 * z2;
     uint64_t volts = w->volts * 1000000ull, unit = w->unit;
     unsigned __int128 num = (unsigned __int128)factor * (volts * volts), den = (unsigned __int128)(uint64_t)D * (unit * unit);
     uint64_t n = (uint64_t)__builtin_sqrt((double)num / (double)den);
@@ -124,10 +149,11 @@ static uint64_t amps(const network *w, const board *b, const fault *f, int64_t D
 static void put_boards(int64_t *buffer, const network *w, const fault *f, const sequences *i) {
     uint8_t on[BOARDS];
     shared shares[BOARDS];
+    plane lift = lift_of(&w->boards[f->k - 1], f, buffer[0], i);
     mark_chain(on, w, f->k);
     for (size_t j = 0; j < w->n; j++) {
         standing b = stands(w, f, on, shares, j);
-        put_board(buffer + RANJUPELI_NUMBERS(j), &b, buffer[0], i, f->phase);
+        put_board(buffer + RANJUPELI_NUMBERS(j), &b, buffer[0], i, lift, f->phase);
     }
 }
 

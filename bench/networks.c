@@ -86,6 +86,18 @@ void make_network(question *q, int shape, int n) {
     }
 }
 
+/* The same network with the source's star point off earth, and transformers that block where there were ones that start a zero sequence. */
+void unearth(question *q) {
+    for (size_t r = 1; r <= q->n; r++) {
+        uint8_t *s = q->network + 8 + 44 * (r - 1);
+        if (s[26] != 0 && s[26] != 4)
+            continue;
+        s[26]++;
+        memset(s + 36, 0, 8);
+        take_board(&q->boards[r - 1], s);
+    }
+}
+
 void make_fault(question *q, int k, int kind, int phase, int r, int x) {
     memcpy(q->fault, "FT", 2);
     put_label(q->fault + 2, k);

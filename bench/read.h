@@ -14,11 +14,12 @@ typedef struct {
     uint32_t last;
 } label;
 
-/* a board with the sums of its chain; start: the record where its zero sequence started, 0: none */
+/* a board with the sums of its chain, the head of its part (boards joined by kinds 2 and 3), and whether that has an earth return */
 typedef struct {
     label own;
     ohms z1, z2, z0;
-    uint16_t feeder, start, turn;
+    uint16_t feeder, head, turn;
+    uint8_t earthed;
 } board;
 
 typedef struct {

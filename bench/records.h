@@ -37,16 +37,17 @@ static inline int impedance_wrong(record f) {
     }
 }
 
-/* The board's zero sequence, from its record and its feeder's. */
+/* The board's zero sequence, from its record and its feeder's: the head of its part, and if that has an earth return the sum from there on. */
 static inline void zero_sequence(board *b, const board *up, size_t r, record f) {
-    b->z0 = (ohms){0, 0};
-    b->start = 0;
-    if (f.kind == 0 || f.kind == 4) {
-        b->z0 = earthed(f.z0, f.zn);
-        b->start = (uint16_t)r;
-    } else if ((f.kind == 2 || f.kind == 3) && up->start) {
-        b->z0 = plus(up->z0, earthed(f.z0, f.zn)); /* a cable's zn is zero */
-        b->start = up->start;
+    ohms term = earthed(f.z0, f.zn); /* a cable's zn is zero */
+    if (f.kind == 2 || f.kind == 3) {
+        b->head = up->head;
+        b->earthed = up->earthed;
+        b->z0 = up->earthed ? plus(up->z0, term) : (ohms){0, 0};
+    } else {
+        b->head = (uint16_t)r;
+        b->earthed = f.kind == 0 || f.kind == 4;
+        b->z0 = term; /* kinds 1 and 5 have none */
     }
 }
 
@@ -119,8 +120,6 @@ static inline ranjupeli_answer read_fault(fault *f, const network *w, const uint
     f->zf = ohms_at(s + 16);
     if (over(f->zf, MOST_ZF))
         return refused(17, 0, RANJUPELI_FAULT, 0, FAULT);
-    if ((f->kind == 1 || f->kind == 3) && !w->boards[f->k - 1].start)
-        return refused(18, f->k, RANJUPELI_FAULT, 0, FAULT);
     if (!room)
         return refused(19, 0, RANJUPELI_FAULT, 0, 0);
     return refused(0, 0, 0, 0, 0);
@@ -137,28 +136,29 @@ static inline void mark_chain(uint8_t *on, const network *w, uint16_t k) {
         on[k - 1] = 1;
 }
 
-/* The impedances that a board shares with the faulted one: its own sums on the chain, else its feeder's share; zero sequence only where both started in one record. */
+/* The impedances that a board shares with the faulted one: its own sums on the chain, else its feeder's share; zero sequence only in one part. */
 typedef struct {
     ohms z1, z2, z0;
 } shared;
 
-static inline shared share(const board *b, int on, const shared *shares, uint16_t start) {
+static inline shared share(const board *b, int on, const shared *shares, uint16_t head) {
     static const shared none;
     shared s = on ? (shared){b->z1, b->z2, b->z0} : b->feeder ? shares[b->feeder - 1] : none;
-    if (b->start != start)
+    if (b->head != head)
         s.z0 = (ohms){0, 0};
     return s;
 }
 
-/* What board j has to do with the faulted one: what they share, its turn against the other's (0 to 11), and whether its record lies on the other's chain, and on its zero-sequence sum. */
+/* What board j has to do with the faulted one: what they share, its turn against the other's (0 to 11), whether its record lies on the other's chain, whether both are in one part, and whether that has an earth return. */
 typedef struct {
     shared s;
-    int d, on, earth;
+    int d, on, joined, earth;
 } standing;
 
 static inline standing stands(const network *w, const fault *f, const uint8_t *on, shared *shares, size_t j) {
     const board *at = &w->boards[f->k - 1], *b = &w->boards[j];
-    shares[j] = share(b, on[j], shares, at->start);
-    return (standing){shares[j], (b->turn % 12 + 12 - at->turn % 12) % 12, on[j], at->start && b->start == at->start};
+    int joined = b->head == at->head;
+    shares[j] = share(b, on[j], shares, at->head);
+    return (standing){shares[j], (b->turn % 12 + 12 - at->turn % 12) % 12, on[j], joined, joined && at->earthed};
 }
 #endif

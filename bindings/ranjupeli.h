@@ -32,7 +32,8 @@ extern "C" {
 #define RANJUPELI_LONGEST RANJUPELI_FILE(256)
 
 /* the numbers of an answer: 0, or the rule that was broken first, in the order in which they are tested.
- * ranjupeli_solve gives 0 to 19, ranjupeli_write 0, 3, 6 to 11 and 20. */
+ * ranjupeli_solve gives 0 to 17 and 19, ranjupeli_write 0, 3, 6 to 11 and 20. No answer has 18 any more, and none will:
+ * it refused earth faults at boards without earth return, which are answered now. */
 enum {
     RANJUPELI_ACCEPTED = 0,
     RANJUPELI_SHORT_NETWORK = 1,    /* network under 8 bytes */
@@ -52,7 +53,6 @@ enum {
     RANJUPELI_FAULT_KIND = 15,      /* fault kind over 3 */
     RANJUPELI_FAULT_PHASE = 16,     /* phase over 2, or kind 0 with phase not 0 */
     RANJUPELI_FAULT_IMPEDANCE = 17, /* part of Zf over 1,365 */
-    RANJUPELI_NO_EARTH_RETURN = 18, /* earth fault at a board without earth return */
     RANJUPELI_SHORT_BUFFER = 19,    /* buffer under 13 + 24 N numbers */
     RANJUPELI_SHORT_OUTPUT = 20     /* output shorter than the file */
 };
@@ -168,7 +168,6 @@ static inline const char *ranjupeli_sentence(unsigned number) {
     case RANJUPELI_FAULT_KIND: return "the fault's kind is over 3";
     case RANJUPELI_FAULT_PHASE: return "the fault's phase is over 2, or not 0 in a fault of all three phases";
     case RANJUPELI_FAULT_IMPEDANCE: return "a part of the fault's impedance is over 1,365";
-    case RANJUPELI_NO_EARTH_RETURN: return "an earth fault is asked at a board without earth return";
     case RANJUPELI_SHORT_BUFFER: return "the buffer has under 13 + 24 N numbers";
     case RANJUPELI_SHORT_OUTPUT: return "the output is shorter than the file";
     }

@@ -1,5 +1,5 @@
 #!/usr/bin/env python3
-"""Writes crates/figures/stdin and stdout: the figures of 01 that are run, 003's one-phase example, and what answering each gives by the oracle."""
+"""Writes crates/figures/stdin and stdout: the figures of 01 that are run, those of R-2, 003's one-phase example, and what answering each gives by the oracle."""
 import os
 import oracle
 from oracle import fault, head, record, w16
@@ -62,7 +62,7 @@ case(THREE, fault('HALL', 1, 3), FULL)
 case(THREE, fault('HALL', 0, 1, (2000, 0)), FULL)
 case(THREE, good, FULL - 1)
 case(THREE, good, 0)
-# 17 before 18, 18 at its board, 18 before 19; no earth return is no zero
+# 02, R-2: earth faults at boards without earth return are answered; 17 is still tested, 19 still comes last
 BLOCK = record('BLOCK', 'GEN', 5, 6, J(9), J(9), NONE, NONE)
 UNDER = record('UNDER', 'BLOCK', 2, 0, J(1), J(1), J(1), NONE)
 FOUR = net(GEN, BOOTH, BLOCK, UNDER)
@@ -70,7 +70,20 @@ case(FOUR, fault('UNDER', 1, 0, (1366, 0)), 0)
 for name in ('BLOCK', 'UNDER'):
     for kind in range(4):
         case(FOUR, fault(name, kind, 0), 13 + 24 * 4)
+    for kind in (1, 3):
+        for p in (1, 2):
+            case(FOUR, fault(name, kind, p, (3, 4)), 13 + 24 * 4 + p)
+case(FOUR, fault('UNDER', 3, 2), 13 + 24 * 4 - 1)
 case(FOUR, fault('UNDER', 3, 2), 0)
+# a set without earth, alone and with boards that it feeds: joined ones, one behind kind 5 and one with an earth return of its own
+BARE = record('GEN', '', 1, 0, (1, 20), (2, 15), NONE, NONE)
+SIX = net(BARE, BOOTH, BLOCK, UNDER, HALL, record('STAR', 'BOOTH-WEST-1', 3, 0, J(4), J(4), (2, 3), (5, 7)))
+for p in range(3):
+    case(net(BARE), fault('GEN', 1, p), 37)
+    case(net(BARE), fault('GEN', 3, p, (1365, 7)), 37)
+for name in ('GEN', 'BOOTH-WEST-1', 'UNDER', 'HALL', 'STAR'):
+    for kind in (1, 3):
+        case(SIX, fault(name, kind, 2, (5, 6)), 13 + 24 * 6)
 # 003, one phase to earth: Z 1696, 1696, 1999 reactive, 5.5648 per unit in all: 1,000 V and 10 microohms make it 55,648 A
 case(net(record('G', '', 0, 0, J(1696), J(1696), J(1999), NONE), volts=1000, unit=10), fault('G', 1, 0), 37)
 # a network refused before its fault is looked at

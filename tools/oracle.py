@@ -1,4 +1,4 @@
-"""The paper (01, and R-1 of 02) a second time, in plain Python with whole numbers only. Written from the papers and not from the project's code:
+"""The paper (01, and R-1 and R-2 of 02) a second time, in plain Python with whole numbers only. Written from the papers and not from the project's code:
 expected outputs and figures come from here, so that the two can disagree. Nothing in the gate runs it."""
 from math import isqrt
 
@@ -138,6 +138,8 @@ def judged(board, r, before, part):
         new['zero'] = [r] + up['zero']
     else:
         new['zero'] = []
+    # the record by which its part is named: kinds 2 and 3 join a board to its feeder's
+    new['part'] = up['part'] if kind in (2, 3) else r
     every = before + [new]
 
     def total(what, places):
@@ -177,8 +179,6 @@ def answer(net, flt, room):
         raise Refused(16, 0, shown)
     if max(zf) > 1365:
         raise Refused(17, 0, shown)
-    if kind in (1, 3) and not boards[k]['zero']:
-        raise Refused(18, k, shown)
     if room < 13 + 24 * count:
         raise Refused(19, 0, ('fault', 0, 0))
     Z1, Z2, Z0, Zf = rx(boards[k]['Z1']), rx(boards[k]['Z2']), rx(boards[k]['Z0']), rx(zf)
@@ -190,6 +190,9 @@ def answer(net, flt, room):
         2: (add(add(Z1, Z2), Zf), (ONE, neg(ONE), NIL)),
         3: (delta, (add(Z2, G), neg(G), neg(Z2))),
     }[kind]
+    lost = kind in (1, 3) and not boards[k]['zero']  # R-2: an earth fault without earth return
+    if lost:
+        divisor, above = (ONE, (NIL, NIL, NIL)) if kind == 1 else (add(Z1, Z2), (ONE, neg(ONE), NIL))
     D = divisor[0] ** 2 + divisor[3] ** 2
     I = [mul(x, conj(divisor)) for x in above]
 
@@ -211,6 +214,8 @@ def answer(net, flt, room):
             return rx(tuple(sum(boards[i][what][x] for i in places) for x in (0, 1)))
 
         W = [add(whole(D), neg(mul(shared('z1', common), I[0]))), neg(mul(shared('z2', common), I[1])), neg(mul(shared('t0', common0), I[2]))]
+        if lost and here['part'] == at['part']:
+            W[2] = neg(ONE) if kind == 1 else add(whole(D), neg(mul(Z1, I[0])))
         on = q in at['chain']
         C = [I[0] if on else NIL, I[1] if on else NIL, I[2] if q in at['zero'] else NIL]
         for X in (W, C):

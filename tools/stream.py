@@ -31,7 +31,9 @@ solving = [
     (head(230, 1000, 3) + GEN + BOOTH + BOOTH, SOUND, FULL),
     (THREE, SOUND[:19], 3),
     (THREE, fault('NOWHERE', 1, 0), FULL),
+    # 02, R-2: an earth fault at a board without earth return
     (FOUR, fault('BLOCK', 1, 0), 13 + 24 * 4),
+    (FOUR, fault('BLOCK', 3, 2, (1, 0)), 13 + 24 * 4),
     # a short buffer, and none
     (THREE, SOUND, FULL - 1),
     (THREE, SOUND, 0),

@@ -7,8 +7,9 @@ use ranjupeli::Outcome;
 use std::io::Read;
 
 fn print_numbers() {
-    let outcomes = (0..).map_while(Outcome::from_number);
-    outcomes.for_each(|outcome| println!("{} {}", outcome as u8, outcome.sentence()));
+    for number in 0..=Outcome::ShortOutput as u8 {
+        println!("{number} {}", lines::sentence(number));
+    }
 }
 
 fn main() -> std::io::Result<()> {

@@ -21,7 +21,8 @@ pub const fn file(boards: usize) -> usize {
 pub const LONGEST: usize = file(256);
 
 /// What an answer's number says: 0, or the rule that was broken first, in the order in which they are tested.
-/// [`solve`] gives 0 to 19, [`write`] 0, 3, 6 to 11 and 20.
+/// [`solve`] gives 0 to 17 and 19, [`write`] 0, 3, 6 to 11 and 20. No answer has 18 any more, and none will:
+/// it refused earth faults at boards without earth return, which are answered now.
 #[non_exhaustive]
 #[repr(u8)]
 #[derive(Clone, Copy, Debug, PartialEq, Eq, Hash)]
@@ -61,16 +62,13 @@ pub enum Outcome {
     FaultPhase = 16,
     /// Part of Zf over 1,365.
     FaultImpedance = 17,
-    /// Earth fault at a board without earth return.
-    NoEarthReturn = 18,
     /// Buffer under 13 + 24 N numbers.
     ShortBuffer = 19,
     /// Output shorter than the file.
     ShortOutput = 20,
 }
 
-// By number, from 0.
-const OUTCOMES: [Outcome; 21] = [
+const OUTCOMES: [Outcome; 20] = [
     Outcome::Accepted,
     Outcome::ShortNetwork,
     Outcome::HeadMark,
@@ -89,7 +87,6 @@ const OUTCOMES: [Outcome; 21] = [
     Outcome::FaultKind,
     Outcome::FaultPhase,
     Outcome::FaultImpedance,
-    Outcome::NoEarthReturn,
     Outcome::ShortBuffer,
     Outcome::ShortOutput,
 ];
@@ -97,7 +94,7 @@ const OUTCOMES: [Outcome; 21] = [
 impl Outcome {
     /// None: no answer has this number.
     pub fn from_number(number: u8) -> Option<Outcome> {
-        OUTCOMES.get(usize::from(number)).copied()
+        OUTCOMES.into_iter().find(|o| *o as u8 == number)
     }
 
     /// What it says, for a reader.
@@ -121,7 +118,6 @@ impl Outcome {
             Outcome::FaultKind => "the fault's kind is over 3",
             Outcome::FaultPhase => "the fault's phase is over 2, or not 0 in a fault of all three phases",
             Outcome::FaultImpedance => "a part of the fault's impedance is over 1,365",
-            Outcome::NoEarthReturn => "an earth fault is asked at a board without earth return",
             Outcome::ShortBuffer => "the buffer has under 13 + 24 N numbers",
             Outcome::ShortOutput => "the output is shorter than the file",
         }

@@ -6,7 +6,7 @@ use lib.IntN.{natAbs}
 use Rattle.root.specs.Root.{Root}
 use Rattle.paper.specs.Bounds.{AtMost}
 use Rattle.paper.specs.Kind.{isZero}
-use Rattle.paper.specs.Chain.{Z1, Z2}
+use Rattle.paper.specs.Chain.{unearthed, Z1, Z2}
 use Rattle.paper.specs.Phase.{Asked, theD}
 use Rattle.paper.specs.Amps.{amps, factor}
 use Rattle.follows.proofs.Divisor.{theD-natural, theD-least}
@@ -21,6 +21,6 @@ module _ (q : Asked) where
     theD-positive = record { whole = theD-natural q; least = theD-least q h1 h2 }
 
     pub amps-are : AtMost 4095 (Z2 boards k) → head .volts ≤ 1000 → 1 ≤ head .unit → (n : ℕ)
-        → Root (factor (Z2 boards k) (fault .kind) * voltsSquare q) (natAbs (theD q) * (head .unit * head .unit)) n
+        → Root (factor (unearthed boards k) (Z2 boards k) (fault .kind) * voltsSquare q) (natAbs (theD q) * (head .unit * head .unit)) n
         → n ≡ amps q
     amps-are u hv hu n r = amps-only q h1 h2 u hv hu n r

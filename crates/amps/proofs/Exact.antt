@@ -1,9 +1,10 @@
 -- "|I|² is then a fraction of whole numbers": over D² it is D times a factor of the kind, so over D it is the factor. The amps are the root of that. Assumes nothing.
 use mathlib.Core.Path.{_≡_, refl, sym, _∙_, ap, ap₂}
-use mathlib.Core.Bool.{false}
+use mathlib.Core.Bool.{Bool, true, false}
 use mathlib.Core.List.{[], _∷_}
+use mathlib.Core.Logic.{_⊎_, inl, inr}
 use Prim.Native.Nat.{ℕ, zero, suc, _+_, _*_, _≤_}
-use native.Mathlib.Nat.{mul-pos, mul-le-mul, le-trans, lt-of-le-of-lt, div-le-self}
+use native.Mathlib.Nat.{zero-mul, mul-pos, mul-le-mul, le-trans, lt-of-le-of-lt, div-le-self}
 use native.Mathlib.Omega.{arith}
 use lib.Dec.{lit≤}
 use lib.IntN.{ℤ, pos, natAbs}
@@ -19,17 +20,16 @@ use Rattle.root.specs.Root.{Root}
 use Rattle.root.proofs.Laws.{root-unique}
 use Rattle.paper.specs.declared.Ohms.{Ohms}
 use Rattle.paper.specs.Kind.{isZero}
-use Rattle.paper.specs.Chain.{Z1, Z2, Z0}
+use Rattle.paper.specs.Chain.{unearthed, Z1, Z2, Z0}
 use Rattle.paper.specs.declared.Seq.{Seq}
-use Rattle.paper.specs.Fault.{numOf, seq, shorts, shortOf, currents}
-use Rattle.paper.specs.Phase.{Asked, theD, theI, shows}
+use Rattle.paper.specs.Fault.{numOf, seq, shorts, unearthedShorts, shortOf, D, currents}
+use Rattle.paper.specs.Phase.{Asked, theShort, theD, theI, shows}
 use Rattle.paper.specs.Amps.{greatest, said, saidSquare, ampsOver, ampsUnder, amps, factor}
 use Rattle.follows.proofs.Flat.{flat-num, flat-add, flat-neg, flat-square}
-use Rattle.follows.proofs.Row.{rowOf}
 use Rattle.follows.proofs.Square.{sq}
-use Rattle.follows.proofs.Divisor.{D-natural, D-square, theD-least}
+use Rattle.follows.proofs.Divisor.{theD-square, theD-natural, theD-least}
 use Rattle.paper.specs.Bounds.{AtMost}
-use Rattle.amps.proofs.Greatest.{greatest-is, root-scale, greatest-scale}
+use Rattle.amps.proofs.Greatest.{greatest-is, root-scale, greatest-scale, greatest-none}
 
 -- ---- I is some number N times the conjugate of the divisor, so the square of its absolute value is N's times D
 product-square : (N d : Num) (k : ℕ) (D : ℤ) {n : Num} → n ≡ N *N conjN d → N *N conjN N ≡ wholeN (pos k) → d *N conjN d ≡ wholeN D → D ≡ pos (natAbs D)
@@ -76,33 +76,40 @@ earth-square : (z : Ohms) → let n = negN (numOf z) +N negN (numOf z) +N negN (
 earth-square z = let f = flat-neg (flat-num z) in flat-square (flat-add (flat-add f f) f) ∙ ap wholeN (nine z)
 
 module _ (z1 z2 z0 zf : Ohms) where
-  abbrev above : ℕ → Num
-  above kind = saidOf (rowOf z1 z2 z0 zf kind .above) kind
+  abbrev above : Bool → ℕ → Num
+  above unearthed kind = saidOf (shortOf (numOf z1) (numOf z2) (numOf z0) (numOf zf) unearthed kind .above) kind
 
   -- its square is the factor
-  above-square : (kind : ℕ) → above kind *N conjN (above kind) ≡ wholeN (pos (factor z2 kind))
-  unfolding factor sq shortOf shorts shows powerN timesT conjN _*N_ _+N_ _·N_ negN
-  above-square zero = refl
-  above-square (suc zero) = refl
-  above-square (suc (suc zero)) = refl
-  above-square (suc (suc (suc zero))) = earth-square z2
-  above-square (suc (suc (suc (suc k)))) = refl
+  above-square : (unearthed : Bool) (kind : ℕ) → above unearthed kind *N conjN (above unearthed kind) ≡ wholeN (pos (factor unearthed z2 kind))
+  unfolding factor sq shortOf shorts unearthedShorts shows powerN timesT conjN _*N_ _+N_ _·N_ negN
+  above-square false zero = refl
+  above-square false (suc zero) = refl
+  above-square false (suc (suc zero)) = refl
+  above-square false (suc (suc (suc zero))) = earth-square z2
+  above-square false (suc (suc (suc (suc k)))) = refl
+  above-square true zero = refl
+  above-square true (suc zero) = refl
+  above-square true (suc (suc zero)) = refl
+  above-square true (suc (suc (suc zero))) = refl
+  above-square true (suc (suc (suc (suc k)))) = refl
 
 -- how large it is at most
-pub factor-most : {z2 : Ohms} (kind : ℕ) → AtMost 4095 z2 → factor z2 kind ≤ 301842450
+pub factor-most : {z2 : Ohms} (unearthed : Bool) (kind : ℕ) → AtMost 4095 z2 → factor unearthed z2 kind ≤ 301842450
 unfolding factor
-factor-most zero u = lit≤ tt
-factor-most (suc zero) u = lit≤ tt
-factor-most (suc (suc zero)) u = lit≤ tt
-factor-most (suc (suc (suc zero))) u = omega (arith, mul-le-mul (u .r-most) (u .r-most), mul-le-mul (u .x-most) (u .x-most))
-factor-most (suc (suc (suc (suc k)))) u = lit≤ tt
+factor-most unearthed zero u = lit≤ tt
+factor-most false (suc zero) u = lit≤ tt
+factor-most true (suc zero) u = lit≤ tt
+factor-most unearthed (suc (suc zero)) u = lit≤ tt
+factor-most false (suc (suc (suc zero))) u = omega (arith, mul-le-mul (u .r-most) (u .r-most), mul-le-mul (u .x-most) (u .x-most))
+factor-most true (suc (suc (suc zero))) u = lit≤ tt
+factor-most unearthed (suc (suc (suc (suc k)))) u = lit≤ tt
 
 -- ---- of a question
 module _ (q : Asked) where
   open Asked q using (head, boards, fault, k)
 
   abbrev pub factorOf : ℕ
-  factorOf = factor (Z2 boards k) (fault .kind)
+  factorOf = factor (unearthed boards k) (Z2 boards k) (fault .kind)
 
   -- volts·1,000,000, squared
   abbrev pub voltsSquare : ℕ
@@ -110,16 +117,12 @@ module _ (q : Asked) where
 
   -- |I|² over D² is a whole number, with no other coordinates: it is the factor times D
   pub said-square : said q *N conjN (said q) ≡ wholeN (pos (factorOf * natAbs (theD q)))
-  unfolding said theI theD currents
+  unfolding said theI theShort currents
   said-square =
-      let z1 = Z1 boards k in
-      let z2 = Z2 boards k in
-      let z0 = Z0 boards k in
-      let zf = fault .zf in
-      let row = rowOf z1 z2 z0 zf (fault .kind) in
-      product-square (above z1 z2 z0 zf (fault .kind)) (row .divisor) factorOf (theD q) (said-scaled (fault .kind) (row .above) (conjN (row .divisor)))
-      (above-square z1 z2 z0 zf (fault .kind)) (D-square z1 z2 z0 zf (fault .kind))
-      (D-natural z1 z2 z0 zf (fault .kind))
+      let row = theShort q in
+      let u = unearthed boards k in
+      product-square (saidOf (row .above) (fault .kind)) (row .divisor) factorOf (theD q) (said-scaled (fault .kind) (row .above) (conjN (row .divisor)))
+      (above-square (Z1 boards k) (Z2 boards k) (Z0 boards k) (fault .zf) u (fault .kind)) (theD-square q) (theD-natural q)
 
   pub saidSquare-is : saidSquare q ≡ factorOf * natAbs (theD q)
   unfolding saidSquare
@@ -142,12 +145,24 @@ module _ (q : Asked) where
     unfolding amps
     amps-is = ap₂ greatest over-is under-is ∙ greatest-scale (natAbs (theD q)) (factorOf * voltsSquare) (natAbs (theD q) * (head .unit * head .unit)) least
 
+    -- 02, R-2: no amps of one phase to earth, and "earth amps 0" of two, without earth return
+    pub no-earth-amps : unearthed boards k ≡ true → (fault .kind ≡ 1) ⊎ (fault .kind ≡ 3) → amps q ≡ 0
+    unfolding factor
+    no-earth-amps u h =
+        let none : factorOf * voltsSquare ≡ 0 = rw (no-factor h) (zero-mul voltsSquare) in
+        let under = natAbs (theD q) * (head .unit * head .unit) in
+        amps-is ∙ ap (λ n. greatest n under) none ∙ greatest-none under
+      where
+        no-factor : (fault .kind ≡ 1) ⊎ (fault .kind ≡ 3) → factorOf ≡ 0
+        no-factor (inl e) = rw (u, e)
+        no-factor (inr e) = rw (u, e)
+
     -- and it is the root of that, the only one
     module _ (u : AtMost 4095 (Z2 boards k)) (hv : head .volts ≤ 1000) (hu : 1 ≤ head .unit) where
       pub amps-root : Root (factorOf * voltsSquare) (natAbs (theD q) * (head .unit * head .unit)) (amps q)
       amps-root =
           let v : head .volts * 1000000 ≤ 1000000000 = omega arith in
-          let most : factorOf * voltsSquare ≤ 301842450 * (1000000000 * 1000000000) = mul-le-mul (factor-most (fault .kind) u) (mul-le-mul v v) in
+          let most : factorOf * voltsSquare ≤ 301842450 * (1000000000 * 1000000000) = mul-le-mul (factor-most (unearthed boards k) (fault .kind) u) (mul-le-mul v v) in
           rw amps-is
           (greatest-is (factorOf * voltsSquare) (natAbs (theD q) * (head .unit * head .unit)) (mul-pos least (mul-pos hu hu))
           (lt-of-le-of-lt (le-trans (div-le-self (factorOf * voltsSquare) (natAbs (theD q) * (head .unit * head .unit))) most) (lit≤ tt)))

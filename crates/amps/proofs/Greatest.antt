@@ -3,7 +3,7 @@ use mathlib.Core.Bool.{Bool, true, false, not, cond}
 use mathlib.Core.Logic.{_↔_}
 use mathlib.Core.Path.{_≡_, ap}
 use Prim.Native.Nat.{ℕ, zero, suc, _+_, _*_, _/_, _^_, _≤_, _<_}
-use native.Mathlib.Nat.{mul-mul-mul-comm, pow-suc, le-div-iff-mul-le, div-lt-iff-lt-mul, mul-le-mul-left, mul-lt-mul-of-pos-left, le-of-mul-le-mul-left, lt-of-mul-lt-mul-left, mul-div-mul-left}
+use native.Mathlib.Nat.{mul-mul-mul-comm, pow-suc, le-div-iff-mul-le, div-lt-iff-lt-mul, mul-le-mul-left, mul-lt-mul-of-pos-left, le-of-mul-le-mul-left, lt-of-mul-lt-mul-left, mul-div-mul-left, zero-div}
 use native.Mathlib.Numerals.{add-one}
 use native.Mathlib.Omega.{arith}
 use lib.Dec.{T, leb, leb→le, nleb→lt}
@@ -74,3 +74,8 @@ root-scale c over under n h = (down, up)
 pub greatest-scale : (c over under : ℕ) → 0 < c → greatest (c * over) (c * under) ≡ greatest over under
 unfolding greatest
 greatest-scale c over under h = ap (root 80) (mul-div-mul-left over under h)
+
+-- of nothing there is none
+pub greatest-none : (under : ℕ) → greatest 0 under ≡ 0
+unfolding greatest root
+greatest-none under = ap (root 80) (zero-div under)

@@ -1,5 +1,5 @@
 -- The pass over the boards, turn by turn: what it knows of a board is the paper's. Assumes nothing.
-use mathlib.Core.Bool.{Bool, true, false, not, _&&_}
+use mathlib.Core.Bool.{Bool, true, false, not}
 use mathlib.Core.List.{List, [], _∷_, _++_, append-nil, append-assoc}
 use mathlib.Core.Logic.{_⊎_, inl, inr}
 use mathlib.Core.Path.{_≡_, refl, sym, _∙_, ap, subst}
@@ -8,31 +8,28 @@ use native.Mathlib.Omega.{arith}
 use native.Mathlib.Numerals.{add-one}
 use lib.Dec.{eqb}
 use lib.IntN.{ℤ, pos}
-use lib.ListN.{length, length-append, length-take, length-drop, getD, set, take, drop, take-append-drop}
+use lib.ListN.{length, length-take, length-drop, getD, set, take, drop, take-append-drop}
 use lib.Seq.{getD-set-same, getD-set-other}
 use Rattle.lemmas.specs.Over.{over}
 use borrow.Rule.Slice.PartMut.{putMid}
 use borrow.Author.Tests.{eqb-true, eqb-false}
 use Rattle.lemmas.proofs.Over.{put-over, over-then, over-length}
-use Rattle.paper.specs.declared.Fault.{Fault}
-use Rattle.paper.specs.declared.Seq.{Seq}
 use Rattle.paper.specs.Bytes.{oneOf}
-use Rattle.paper.specs.Chain.{Boards, feederOf, chain, zeroChain, startsAt, Z1, Z2, Z0, turnOf}
-use Rattle.paper.specs.Phase.{Asked, theD, theI, voltage, current, phases, boardVoltages, recordCurrents}
+use Rattle.paper.specs.Chain.{Boards, feederOf, chain, partHead, joined, unearthed, Z1, Z2, Z0, turnOf}
+use Rattle.paper.specs.Phase.{Asked, theD, theI, lift, current, phases, boardVoltages, recordCurrents}
 use Rattle.paper.specs.Answer.{flat, ofBoard, ofBoards}
 use Rattle.follows.proofs.Chain.{feeder-earlier}
-use Rattle.follows.proofs.Earth.{earthed-is}
+use Rattle.follows.proofs.Shared.{earthed-is}
 use Rattle.follows.proofs.Laid.{board-size, boards-size}
 use Rattle.fits.proofs.Sizes.{Ranged}
-use Rattle.fits.proofs.Fits.{SumsSmall, SharesSmall, shares-small, theD-small, theI-plane}
+use Rattle.fits.proofs.Fits.{shares-small, theD-small, theI-plane, lift-plane}
 use Rattle.node.specs.declared.Node.{Node}
-use Rattle.node.specs.Node.{nodeOf, noNode}
+use Rattle.node.specs.Node.{startOf, nodeOf, noNode}
 use Rattle.node.specs.Tables.{table, nodesOf}
 use Rattle.node.proofs.Tables.{table-at, nodes-length, nodes-at}
-use Rattle.fault.specs.declared.Shorted.{Shorted}
+use Rattle.node.proofs.Starts.{starts-nowhere}
 use Rattle.fault.specs.Short.{shortedOf}
 use Rattle.fault.proofs.Asked.{shorted-is, voltage-is}
-use Rattle.chain.specs.Marked.{marksOf}
 use Rattle.chain.proofs.Climb.{mark-is}
 use Rattle.chain.specs.declared.share.Shared.{Shared}
 use Rattle.chain.specs.Share.{noShare, sharedOf, shareFrom}
@@ -60,15 +57,21 @@ module _ (q : Asked) (ready : Ready q) where
 
   -- the fault at its board
   abbrev pub here : Faulted
-  here = record { i = theI q; d = theD q; start = startsAt boards k; turn = turnOf boards k; phase = fault .phase }
+  here = record { i = theI q; lift = lift q; d = theD q; head = partHead boards k; turn = turnOf boards k; phase = fault .phase; earthed = not (unearthed boards k) }
 
   pub faulted-is : faultedFrom (nodeOf boards k) fault ≡ here
   unfolding faultedFrom nodeOf
-  faulted-is = λ i. record { i = shorted-is q i .i; d = shorted-is q i .d; start = startsAt boards k; turn = turnOf boards k; phase = fault .phase }
+  faulted-is =
+      (λ i. let s = shortedOf (Z1 boards k) (Z2 boards k) (Z0 boards k) (fault .zf) (fault .kind) (returns i) in
+      record { i = s .i; lift = s .lift; d = s .d; head = partHead boards k; turn = turnOf boards k; phase = fault .phase; earthed = returns i })
+      ∙ (λ i. record { i = shorted-is q i .i; lift = shorted-is q i .lift; d = shorted-is q i .d; head = partHead boards k; turn = turnOf boards k; phase = fault .phase; earthed = not (unearthed boards k) })
+    where
+      returns : not (eqb (startOf boards k) 0) ≡ not (unearthed boards k)
+      returns = ap not (starts-nowhere boards k (ready .k-from))
 
   here-small : FaultSmall here
   here-small =
-      record { d-small = theD-small q ranged; i-small = theI-plane q ranged; turn-small = ready .sums-in k (ready .k-from) (ready .k-to) .turns; phase-to = ready .phase-to }
+      record { d-small = theD-small q ranged; i-small = theI-plane q ranged; lift-small = lift-plane q ranged; turn-small = ready .sums-in k (ready .k-from) (ready .k-to) .turns; phase-to = ready .phase-to }
 
   pub fault-small : {f : Faulted} → f ≡ faultedFrom (nodeOf boards k) fault → FaultSmall f
   fault-small e = subst FaultSmall (sym (e ∙ faulted-is)) here-small
@@ -83,10 +86,10 @@ module _ (q : Asked) (ready : Ready q) where
 
   -- ---- a board's numbers are the paper's
   pub numbers-are : (j : ℕ) → numbersOf here (oneOf j (chain boards k)) (nodeOf boards j) (sharedOf boards k j) ≡ ofBoard q j
-  unfolding numbersOf leftOf passedOf carriedOf nodeOf sharedOf ofBoard boardVoltages recordCurrents current
+  unfolding numbersOf leftOf passedOf carriedOf nodeOf sharedOf joined ofBoard boardVoltages recordCurrents current
   numbers-are j =
       λ i. flat (phases (fault .phase) (turnOf boards j) (turnOf boards k) (voltage-is q j i))
-      ++ flat (phases (fault .phase) (turnOf boards j) (turnOf boards k) (carriedOf (oneOf j (chain boards k)) (earthed-is boards j k i) (theI q)))
+      ++ flat (phases (fault .phase) (turnOf boards j) (turnOf boards k) (carriedOf (oneOf j (chain boards k)) (earthed-is boards k j i) (theI q)))
 
 -- ---- the numbers of the boards, one behind the other
 module _ (q : Asked) where
@@ -143,13 +146,13 @@ module _ (q : Asked) (nodes : List Node) (n : ℕ) (on : List Bool) (f : Faulted
         u ∙ sym (share-none boards k) ∙ ap (sharedOf boards k) d
 
     -- the record is what it is
-    pub share-is : {here : Bool} {node : Node} {start : ℕ} {up s : Shared} → here ≡ getD on j false → node ≡ getD nodes j noNode → start ≡ f .start → up ≡ sharedOf boards k (feederOf boards (suc j))
-        → s ≡ shareFrom here node start up → s ≡ sharedOf boards k (suc j)
+    pub share-is : {here : Bool} {node : Node} {head : ℕ} {up s : Shared} → here ≡ getD on j false → node ≡ getD nodes j noNode → head ≡ f .head → up ≡ sharedOf boards k (feederOf boards (suc j))
+        → s ≡ shareFrom here node head up → s ≡ sharedOf boards k (suc j)
     share-is e d b u c =
-        c ∙ (λ i. shareFrom (e i) (d i) (b i) (u i)) ∙ (λ i. shareFrom (mark-at j h i) (node-at j h i) (starting i) (sharedOf boards k (feederOf boards (suc j)))) ∙ share-next boards k j
+        c ∙ (λ i. shareFrom (e i) (d i) (b i) (u i)) ∙ (λ i. shareFrom (mark-at j h i) (node-at j h i) (heading i) (sharedOf boards k (feederOf boards (suc j)))) ∙ share-next boards k (p .ready .k-from) j
       where
-        starting : f .start ≡ startsAt boards k
-        starting = ap (λ (g : Faulted). g .start) (p .faulted-is ∙ faulted-is q (p .ready))
+        heading : f .head ≡ partHead boards k
+        heading = ap (λ (g : Faulted). g .head) (p .faulted-is ∙ faulted-is q (p .ready))
 
     pub turn-fits : getD nodes j noNode .turn ≤ 2816
     unfolding nodeOf

@@ -1,26 +1,29 @@
 -- The whole answer, of a question that was posed. Assumes nothing.
-use mathlib.Core.Bool.{Bool}
+use mathlib.Core.Bool.{Bool, true, false, not}
 use mathlib.Core.List.{List, [], _∷_, _++_}
 use mathlib.Core.Path.{_≡_, refl, sym, _∙_, ap, subst}
-use Prim.Native.Nat.{ℕ, zero, suc, _+_, _*_, _-_, _≤_, _<_}
+use Prim.Native.Nat.{ℕ, zero, suc, _+_, _*_, _-_, _≤_}
 use native.Mathlib.Decide.{decLe}
 use native.Mathlib.Omega.{arith}
 use borrow.Rule.Slice.PartMut.{putMid}
+use lib.Dec.{lit≤}
 use lib.IntN.{ℤ, pos, natAbs}
 use lib.ListN.{length, getD, replicate}
 use lib.Seq.{getD-append-add}
+use mir.Syntax.{w64}
+use mir.Val.{SFits}
 use Rattle.lemmas.specs.Over.{over}
+use Rattle.lemmas.proofs.Words.{sfits}
 use Rattle.lemmas.proofs.Over.{put-over, over-then, over-length}
 use Rattle.root.specs.Root.{Root}
 use Rattle.paper.specs.declared.Head.{Head}
 use Rattle.paper.specs.declared.Fault.{Fault}
 use Rattle.paper.specs.Bounds.{AtMost}
-use Rattle.paper.specs.Chain.{Z2}
+use Rattle.paper.specs.Chain.{unearthed}
 use Rattle.paper.specs.Phase.{Asked, theD, phases, faultCurrents}
 use Rattle.paper.specs.Amps.{amps, factor}
 use Rattle.paper.specs.Answer.{flat, numbers, ofBoards}
 use Rattle.follows.proofs.Chain.{feeder-earlier}
-use Rattle.amps.proofs.Exact.{voltsSquare}
 use Rattle.node.specs.declared.Node.{Node}
 use Rattle.node.specs.Node.{nodeOf, noNode}
 use Rattle.node.specs.Tables.{table, nodesOf}
@@ -30,10 +33,9 @@ use Rattle.amps.proofs.Asked.{theD-positive, amps-are}
 use Rattle.chain.specs.Marked.{FromEarlier, marksOf}
 use Rattle.board.specs.declared.front.Faulted.{Faulted}
 use Rattle.board.specs.Faulted.{faultedFrom, topOf}
-use Rattle.answer.specs.Ready.{Ready}
 use Rattle.answer.specs.Passing.{Passing}
 use Rattle.answer.specs.Posed.{Posed}
-use Rattle.answer.proofs.Boards.{in-table, here, faulted-is}
+use Rattle.answer.proofs.Boards.{in-table, here, faulted-is, fault-small}
 
 -- ---- nodes in their table
 module _ (q : Asked) where
@@ -124,6 +126,9 @@ module _ {q : Asked} {h : Head} {ns : List Node} {f : Fault} {k : ℕ} (p : Pose
   d-is : {g : Faulted} → g ≡ faultedFrom (getD ns (k - 1) noNode) f → g .d ≡ theD q
   d-is e = ap (λ (x : Faulted). x .d) (faulted-good e ∙ faulted-is q (p .ready))
 
+  pub d-fits : {g : Faulted} → g ≡ faultedFrom (getD ns (k - 1) noNode) f → SFits w64 (g .d)
+  d-fits e = sfits (fault-small q (p .ready) (faulted-good e) .d-small) (lit≤ tt)
+
   pub d-positive : {g : Faulted} {d : ℤ} → d ≡ g .d → g ≡ faultedFrom (getD ns (k - 1) noNode) f → Positive d
   d-positive c e = subst Positive (sym (c ∙ d-is e)) (theD-positive q (p .ready .Z1-there) (p .ready .Z2-there))
 
@@ -131,16 +136,29 @@ module _ {q : Asked} {h : Head} {ns : List Node} {f : Fault} {k : ℕ} (p : Pose
   volts-in = subst (λ (x : Head). (x .volts ≤ 1000) × (1 ≤ x .unit)) (sym (p .same-head)) (p .ready .volts-to, p .ready .unit-from)
 
   -- ---- the amps
-  abbrev rootOf : Node → Fault → Head → ℤ → ℕ → Type 0
-  rootOf at x y d n = Root (factor (at .z2) (x .kind) * ((y .volts * 1000000) * (y .volts * 1000000))) (natAbs d * (y .unit * y .unit)) n
+  abbrev rootOf : Bool → Node → Fault → Head → ℤ → ℕ → Type 0
+  rootOf unearthed at x y d n = Root (factor unearthed (at .z2) (x .kind) * ((y .volts * 1000000) * (y .volts * 1000000))) (natAbs d * (y .unit * y .unit)) n
 
-  pub amps-good : {g : Faulted} {d : ℤ} (n : ℕ) → d ≡ g .d → g ≡ faultedFrom (getD ns (k - 1) noNode) f
-      → Root (factor (getD ns (k - 1) noNode .z2) (f .kind) * ((h .volts * 1000000) * (h .volts * 1000000))) (natAbs d * (h .unit * h .unit)) n → n ≡ amps q
+  -- the node says whether there is an earth return, the paper asks whether there is none
+  no-return : (u : Bool) → not (not u) ≡ u
+  no-return true = refl
+  no-return false = refl
+
+  pub amps-good : {g : Faulted} {d : ℤ} {earthed : Bool} (n : ℕ) → d ≡ g .d → earthed ≡ g .earthed → g ≡ faultedFrom (getD ns (k - 1) noNode) f → rootOf (not earthed) (getD ns (k - 1) noNode) f h d n → n ≡ amps q
   unfolding nodeOf
-  amps-good {g} {d} n c e r =
+  amps-good {g} {d} {earthed} n c b e r =
       amps-are q (p .ready .Z1-there) (p .ready .Z2-there) (p .ready .sums-in (q .k) (p .ready .k-from) (p .ready .k-to) .sum2) (p .ready .volts-to) (p .ready .unit-from) n
-      (subst (λ (x : ℤ). rootOf (nodeOf (q .boards) (q .k)) (q .fault) (q .head) x n) (c ∙ d-is e) (subst (λ (x : Head). rootOf (nodeOf (q .boards) (q .k)) (q .fault) x d n) (p .same-head)
-      (subst (λ (x : Fault). rootOf (nodeOf (q .boards) (q .k)) x h d n) (p .same-fault) (subst (λ (x : Node). rootOf x f h d n) at-is r))))
+      (subst (λ (x : ℤ). rootOf un at (q .fault) (q .head) x n) (c ∙ d-is e) (subst (λ (x : Head). rootOf un at (q .fault) x d n) (p .same-head)
+      (subst (λ (x : Fault). rootOf un at x h d n) (p .same-fault) (subst (λ (x : Node). rootOf un x f h d n) at-is (subst (λ (x : Bool). rootOf x (getD ns (k - 1) noNode) f h d n) return-is r)))))
+    where
+      at : Node
+      at = nodeOf (q .boards) (q .k)
+
+      un : Bool
+      un = unearthed (q .boards) (q .k)
+
+      return-is : not earthed ≡ un
+      return-is = ap not (b ∙ ap (λ (x : Faulted). x .earthed) (faulted-good e ∙ faulted-is q (p .ready))) ∙ no-return un
 
 -- ---- two results and two buffers that the contract allows are equal, since there is a question
 pub same-answer : {h : Head} {ns : List Node} {f : Fault} {k : ℕ} (q : Asked) → Posed q h ns f k → (n m : ℕ) → ((p : Asked) → Posed p h ns f k → n ≡ amps p) → ((p : Asked) → Posed p h ns f k → m ≡ amps p) → n ≡ m

@@ -33,5 +33,5 @@ pub fn answer(head: Head, nodes: [Node; 256], fault: Fault, k: usize, out: &mut 
     top(&mut out[0..13], f);
     boards(nodes, n, on, f, out);
     let z2 = at.z2;
-    amps(head.volts, head.unit, z2, f.d, fault.kind)
+    amps(head.volts, head.unit, z2, f.d, fault.kind, f.earthed)
 }

@@ -29,7 +29,7 @@ pub(crate) fn boards(nodes: [Node; 256], n: usize, on: [bool; 256], f: Faulted, 
             up = shares[feeder - 1];
         }
         let here = on[j];
-        let s = share(here, node, f.start, up);
+        let s = share(here, node, f.head, up);
         shares[j] = s;
         let a = 13 + 24 * j;
         let e = a + 24;

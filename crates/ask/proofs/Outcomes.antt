@@ -1,49 +1,27 @@
 -- The rules of a fault, 12 and 13, then 14, then those at its board, are the paper's rows in their order; from the facts in the shape in which the branches have them. Assumes nothing.
-use mathlib.Core.Bool.{Bool, true, false, not, cond, _&&_}
+use mathlib.Core.Bool.{Bool, true, false, not, cond}
 use mathlib.Core.List.{List, [], _∷_}
 use mathlib.Core.Option.{Option, some}
 use mathlib.Core.Path.{_≡_, refl, sym, _∙_, ap}
-use Prim.Native.Nat.{ℕ, _+_, _*_, _-_, _≤_, _<_}
-use native.Mathlib.Omega.{arith}
+use Prim.Native.Nat.{ℕ, _+_, _*_}
 use lib.Dec.{ltb, eqb}
-use lib.ListN.{length, getD}
+use lib.ListN.{length}
 use borrow.Author.Tests.{eq-eqb, ne-eqb, eqb-true, not-false}
 use Rattle.paper.specs.declared.Fault.{Fault}
 use Rattle.paper.specs.declared.Part.{Part}
 use Rattle.paper.specs.declared.Refusal.{Refusal}
 use Rattle.paper.specs.declared.Lent.the-variants.{FaultBytes}
-use Rattle.paper.specs.Bytes.{u16At, oneOf, part}
+use Rattle.paper.specs.Bytes.{u16At, part}
 use Rattle.paper.specs.Kind.{partOver}
 use Rattle.paper.specs.File.{FT, faultOf}
-use Rattle.paper.specs.Chain.{Boards, placeOf, startsAt}
+use Rattle.paper.specs.Chain.{Boards, placeOf}
 use Rattle.paper.specs.Rows.{Row, row, first}
-use Rattle.paper.specs.Refusal.{theFault, phaseWrong, earthMissing, faultRows}
-use Rattle.follows.proofs.Chain.{starts-nowhere}
-use Rattle.node.specs.declared.Node.{Node}
-use Rattle.node.specs.Node.{noNode, nodeOf}
-use Rattle.node.specs.Tables.{table, nodesOf}
-use Rattle.node.proofs.Tables.{table-at, nodes-length, nodes-at}
-use Rattle.ask.specs.Rules.{earthGone}
+use Rattle.paper.specs.Refusal.{theFault, phaseWrong, faultRows}
 use Rattle.ask.specs.declared.question.Question.{Question}
 use Rattle.ask.specs.Question.{refusedQuestion, asking}
 use Rattle.ask.specs.Steps.{unreadBy, askedAt}
 use Rattle.ask.proofs.Sound.{Sound}
 use Rattle.ask.specs.Ask.{askOf}
-
--- ---- 18
-pub earth-is : (bs : Boards) (k : ℕ) (f : Fault) {start : ℕ} → start ≡ startsAt bs k → earthGone f start ≡ earthMissing bs k f
-unfolding earthGone earthMissing
-earth-is bs k f e = ap (λ (n : ℕ). oneOf (f .kind) (1 ∷ 3 ∷ []) && eqb n 0) e ∙ ap (λ (b : Bool). oneOf (f .kind) (1 ∷ 3 ∷ []) && b) (starts-nowhere bs k)
-
--- the node of board k stands at k - 1
-pub start-read : (bs : Boards) (d : Node) {nodes : List Node} (k : ℕ) → nodes ≡ table noNode (nodesOf bs) → (k ≡ 0 → ⊥) → k ≤ length bs → getD nodes (k - 1) d .start ≡ startsAt bs k
-unfolding nodeOf
-start-read bs d k e h l =
-    let i : k - 1 < length bs = omega arith in
-    let p : 1 + (k - 1) ≡ k = omega arith in
-    ap (λ (ns : List Node). getD ns (k - 1) d .start) e
-    ∙ ap (λ (n : Node). n .start) (table-at noNode (nodesOf bs) (k - 1) d (omega (arith, nodes-length bs 1 (length bs))) ∙ nodes-at d bs 1 (length bs) (k - 1) i)
-    ∙ ap (startsAt bs) p
 
 -- ---- the first row that tests true, from the tests up to some row
 data First : List Row → Option Refusal → Type 0 where
@@ -58,8 +36,8 @@ first-is (skip e rest) = rw e (first-is rest)
 first-is later = refl
 
 -- ---- 12 to 19
-abbrev because : ℕ → ℕ → ℕ → Question
-because number place len = refusedQuestion (record { part = part FaultBytes 0 len; place = place; number = number })
+abbrev because : ℕ → ℕ → Question
+because number len = refusedQuestion (record { part = part FaultBytes 0 len; place = 0; number = number })
 
 module _ (bs : Boards) (s : List ℕ) (room : ℕ) where
   abbrev K : ℕ
@@ -71,13 +49,13 @@ module _ (bs : Boards) (s : List ℕ) (room : ℕ) where
   asks h e = e ∙ ap (λ (o : Option Refusal). asking o (faultOf s) K) (sym (first-is h))
 
   -- 12 and 13
-  by-tests : (a b : Bool) {number : ℕ} {q : Question} → not (eqb (length s) 20) ≡ a → not (eqb (u16At s 0) FT) ≡ b → number ≡ cond a 12 (cond b 13 0) → (number ≡ 0 → ⊥) → q ≡ because number 0 (length s) → q ≡ askOf bs s room
+  by-tests : (a b : Bool) {number : ℕ} {q : Question} → not (eqb (length s) 20) ≡ a → not (eqb (u16At s 0) FT) ≡ b → number ≡ cond a 12 (cond b 13 0) → (number ≡ 0 → ⊥) → q ≡ because number (length s) → q ≡ askOf bs s room
   unfolding faultRows asking
-  by-tests true b t12 t13 h there e = asks (stop t12) (e ∙ ap (λ (x : ℕ). because x 0 (length s)) h)
-  by-tests false true t12 t13 h there e = asks (skip t12 (stop t13)) (e ∙ (λ i. because (h i) 0 (eqb-true (length s) 20 (not-false _ t12) i)))
+  by-tests true b t12 t13 h there e = asks (stop t12) (e ∙ ap (λ (x : ℕ). because x (length s)) h)
+  by-tests false true t12 t13 h there e = asks (skip t12 (stop t13)) (e ∙ (λ i. because (h i) (eqb-true (length s) 20 (not-false _ t12) i)))
   by-tests false false t12 t13 h there e = absurd (there h)
 
-  pub ask-unread : {number : ℕ} {q : Question} → number ≡ unreadBy s → (number ≡ 0 → ⊥) → q ≡ because number 0 (length s) → q ≡ askOf bs s room
+  pub ask-unread : {number : ℕ} {q : Question} → number ≡ unreadBy s → (number ≡ 0 → ⊥) → q ≡ because number (length s) → q ≡ askOf bs s room
   unfolding unreadBy
   ask-unread h there e = by-tests (not (eqb (length s) 20)) (not (eqb (u16At s 0) FT)) refl refl h there e
 
@@ -89,15 +67,14 @@ module _ (bs : Boards) (s : List ℕ) (room : ℕ) where
     to-14 : {rest : List Row} {o : Option Refusal} → First rest o → First (row 12 (not (eqb (length s) 20)) 0 (part FaultBytes 0 (length s)) ∷ row 13 (not (eqb (u16At s 0) FT)) 0 theFault ∷ rest) o
     to-14 h = skip (ap not (eq-eqb (length s) 20 (sound .size))) (skip (ap not (eq-eqb (u16At s 0) FT (sound .mark))) h)
 
-    pub ask-14 : {q : Question} → k ≡ 0 → q ≡ because 14 0 20 → q ≡ askOf bs s room
+    pub ask-14 : {q : Question} → k ≡ 0 → q ≡ because 14 20 → q ≡ askOf bs s room
     unfolding faultRows asking
     ask-14 h e = asks (to-14 (stop (eq-eqb K 0 (k-at ∙ h)))) e
 
-    -- 15 to 19, by where the board's zero sequence starts
-    pub ask-at : {start n : ℕ} {q : Question} → (k ≡ 0 → ⊥) → start ≡ startsAt bs k → length bs ≡ n → q ≡ askedAt f k start n room → q ≡ askOf bs s room
+    -- 15 to 19
+    pub ask-at : {n : ℕ} {q : Question} → (k ≡ 0 → ⊥) → length bs ≡ n → q ≡ askedAt f k n room → q ≡ askOf bs s room
     unfolding faultRows askedAt
-    ask-at {start} there start-is n-is e =
-        let earth : earthGone f start ≡ earthMissing bs K (faultOf s) = earth-is bs k f start-is ∙ (λ i. earthMissing bs (sym k-at i) (f-is i)) in
+    ask-at there n-is e =
         asks
         (to-14 (skip (ne-eqb K 0 (λ z. there (sym k-at ∙ z))) later))
         (e ∙ (λ i. asking
@@ -105,7 +82,6 @@ module _ (bs : Boards) (s : List ℕ) (room : ℕ) where
         (row 15 (ltb 3 (f-is i .kind)) 0 theFault
         ∷ row 16 (phaseWrong (f-is i)) 0 theFault
         ∷ row 17 (partOver 1365 (f-is i .zf)) 0 theFault
-        ∷ row 18 (earth i) (sym k-at i) theFault
         ∷ row 19 (ltb room (13 + 24 * sym n-is i)) 0 (part FaultBytes 0 0)
         ∷ []))
         (f-is i)

@@ -1,6 +1,5 @@
 -- What each contract of this crate rules out: a call that it allows, and an answer that it does not. Assumes nothing.
 use mathlib.Core.List.{List, [], _∷_, _++_}
-use mathlib.Core.Path.{refl}
 use Prim.Native.Nat.{ℕ}
 use lib.Dec.{lit≤}
 use lib.ListN.{replicate, take}
@@ -19,12 +18,10 @@ use Rattle.paper.specs.File.{faultOf}
 use Rattle.paper.specs.Chain.{Chain·open}
 use Rattle.paper.specs.Rows.{Rows·open}
 use Rattle.paper.specs.Refusal.{Refusal·open}
-use Rattle.node.specs.declared.Node.{Node}
-use Rattle.node.specs.Node.{noNode}
-use Rattle.node.specs.Tables.{table, emptyBoard, nodesOf}
+use Rattle.node.specs.Tables.{table, emptyBoard}
 use Rattle.ask.specs.declared.question.Question.{Question}
 use Rattle.ask.specs.Question.{refusedQuestion, acceptedQuestion, asking}
-use Rattle.ask.specs.Rules.{earthGone, broken}
+use Rattle.ask.specs.Rules.{broken}
 use Rattle.ask.specs.Steps.{unreadBy, askedAt}
 use Rattle.ask.specs.Ask.{askOf}
 use Rattle.ask.proofs.rules.broken.Reads as broken-by
@@ -49,7 +46,7 @@ told q = list (q .k ∷ why (q .outcome))
 abbrev refuse : Lent → ℕ → ℕ → ℕ → Question
 refuse w number place len = refusedQuestion (record { part = part w 0 len; place = place; number = number })
 
--- ---- faults at A by kind, phase and R; the bytes of a fault at A by kind; a table of one earthed source, A, and its nodes
+-- ---- faults at A by kind, phase and R; the bytes of a fault at A by kind; a table of one source, A, earthed and not
 abbrev A : List ℕ
 A = 65 ∷ replicate 11 32
 
@@ -59,36 +56,39 @@ fault k p r = record { zf = ohms r 0; label = A; kind = k; phase = p }
 abbrev bytes : ℕ → List ℕ
 bytes k = 0x46 ∷ 0x54 ∷ A ++ (k ∷ replicate 5 0)
 
-abbrev boards : List Board
-boards = table emptyBoard (record { z1 = ohms 0 1; z2 = ohms 0 1; z0 = ohms 0 1; zn = ohms 0 0; label = A; feeder = replicate 12 32; kind = 0; clock = 0 } ∷ [])
+abbrev source : ℕ → ℕ → List Board
+source kind x0 = table emptyBoard (record { z1 = ohms 0 1; z2 = ohms 0 1; z0 = ohms 0 x0; zn = ohms 0 0; label = A; feeder = replicate 12 32; kind = kind; clock = 0 } ∷ [])
 
-abbrev nodes : List Node
-nodes = table noNode (nodesOf (take 1 boards))
+abbrev boards : List Board
+boards = source 0 1
+
+abbrev bare : List Board
+bare = source 1 0
 
 -- ---- the contracts
 pub broken-not : RuledOut (broken-by.Pre tt) (ever (broken-by.Post tt)) (
-    (fault 1 0 1366, (0, tt)) ↛ 18  -- eighteen_before_seventeen
-    ∷ (fault 4 0 0, (1, tt)) ↛ 0  -- kind_4_kept
-    ∷ (fault 0 1 0, (1, tt)) ↛ 0  -- three_phases_on_b
-    ∷ (fault 2 0 0, (0, tt)) ↛ 18  -- two_phases_need_earth
-    ∷ (fault 1 0 1366, (1, tt)) ↛ 0  -- zf_of_1366
+    (fault 4 0 0, tt) ↛ 0  -- kind_4_kept
+    ∷ (fault 0 1 0, tt) ↛ 0  -- three_phases_on_b
+    ∷ (fault 1 0 1366, tt) ↛ 0  -- zf_of_1366
+    ∷ (fault 1 0 0, tt) ↛ 18  -- eighteen_still_there
     ∷ [])
-unfolding broken earthGone Refusal·open Kind·open Bytes·open
-broken-not = by-equation (λ a. broken (a .0) (a .1 .0)) (λ n. n) (λ a z e s. s) (tt, (tt, (tt, (tt, (tt, tt))))) tt
+unfolding broken Refusal·open Kind·open Bytes·open
+broken-not = by-equation (λ a. broken (a .0)) (λ n. n) (λ a z e s. s) (tt, (tt, (tt, (tt, tt)))) tt
 
 pub refused-not : RuledOut (refused.Pre tt) (ever (refused.Post tt)) (
-    (18, (3, (20, tt))) ↛ refuse NetworkBytes 18 3 20  -- refusal_shows_the_network
-    ∷ (18, (3, (20, tt))) ↛ refuse FaultBytes 18 0 20  -- refusal_without_place
+    (17, (20, tt)) ↛ refuse NetworkBytes 17 0 20  -- refusal_shows_the_network
+    ∷ (17, (20, tt)) ↛ refuse FaultBytes 17 1 20  -- refusal_with_place
     ∷ [])
-refused-not = by-equation (λ a. refuse FaultBytes (a .0) (a .1 .0) (a .1 .1 .0)) told (λ a z e s. s) (tt, (tt, tt)) tt
+refused-not = by-equation (λ a. refuse FaultBytes (a .0) 0 (a .1 .0)) told (λ a z e s. s) (tt, (tt, tt)) tt
 
 pub at-board-not : RuledOut (at-board.Pre tt) (ever (at-board.Post tt)) (
-    (fault 1 0 0, (3, (0, (3, (85, tt))))) ↛ refuse FaultBytes 18 0 20  -- eighteen_without_place
-    ∷ (fault 1 0 0, (3, (1, (3, (84, tt))))) ↛ refuse FaultBytes 19 0 20  -- no_room_shows_the_fault
-    ∷ (fault 1 0 0, (3, (1, (3, (84, tt))))) ↛ acceptedQuestion (fault 1 0 0) 3  -- room_for_12
+    (fault 1 0 0, (3, (3, (85, tt)))) ↛ refuse FaultBytes 18 3 20  -- eighteen_at_its_board
+    ∷ (fault 1 0 0, (3, (3, (84, tt)))) ↛ refuse FaultBytes 19 0 20  -- no_room_shows_the_fault
+    ∷ (fault 1 0 0, (3, (3, (84, tt)))) ↛ acceptedQuestion (fault 1 0 0) 3  -- room_for_12
+    ∷ (fault 1 0 1366, (3, (3, (84, tt)))) ↛ refuse FaultBytes 19 0 0  -- nineteen_before_seventeen
     ∷ [])
-unfolding askedAt asking earthGone Rows·open Refusal·open Kind·open Bytes·open
-at-board-not = by-equation (λ a. askedAt (a .0) (a .1 .0) (a .1 .1 .0) (a .1 .1 .1 .0) (a .1 .1 .1 .1 .0)) told (λ a z e s. s) (lit≤ tt, (lit≤ tt, (lit≤ tt, tt))) tt
+unfolding askedAt asking Rows·open Refusal·open Kind·open Bytes·open
+at-board-not = by-equation (λ a. askedAt (a .0) (a .1 .0) (a .1 .1 .0) (a .1 .1 .1 .0)) told (λ a z e s. s) (lit≤ tt, (lit≤ tt, (lit≤ tt, (lit≤ tt, tt)))) tt
 
 module _ (κ : Lft) where
   pub unread-not : RuledOut (unread.Pre (κ, tt)) (ever (unread.Post (κ, tt))) (
@@ -99,12 +99,12 @@ module _ (κ : Lft) where
   unread-not = by-equation (λ a. unreadBy (a .0 .now)) (λ n. n) (λ a z e s. s) (tt, (tt, tt)) tt
 
   pub ask-not : RuledOut (ask.Pre (κ, tt)) (ever (ask.Post (κ, tt))) (
-      (lent (bytes 1), (boards, (nodes, (1, (37, tt))))) ↛ refuse FaultBytes 18 1 20  -- feeder_for_earth_return
-      ∷ (lent (bytes 1), (boards, (nodes, (1, (37, tt))))) ↛ acceptedQuestion (fault 1 0 0) 0  -- place_from_0
-      ∷ (lent (bytes 1), (boards, (nodes, (1, (37, tt))))) ↛ refuse FaultBytes 14 0 20  -- board_1_not_found
-      ∷ (lent [], (boards, (nodes, (1, (37, tt))))) ↛ refuse FaultBytes 12 0 20  -- short_fault_shown_as_20
+      (lent (bytes 1), (bare, (1, (37, tt)))) ↛ refuse FaultBytes 18 1 20  -- unearthed_set_refused
+      ∷ (lent (bytes 1), (boards, (1, (37, tt)))) ↛ acceptedQuestion (fault 1 0 0) 0  -- place_from_0
+      ∷ (lent (bytes 1), (boards, (1, (37, tt)))) ↛ refuse FaultBytes 14 0 20  -- board_1_not_found
+      ∷ (lent [], (boards, (1, (37, tt)))) ↛ refuse FaultBytes 12 0 20  -- short_fault_shown_as_20
       ∷ [])
   unfolding askOf asking faultOf table Rows·open Refusal·open Chain·open Kind·open Label·open Bytes·open
   ask-not =
-      by-equation (λ a. askOf (take (a .1 .1 .1 .0) (a .1 .0)) (a .0 .now) (a .1 .1 .1 .1 .0)) told (λ a z e s. s)
-      ((lit≤ tt, refl), ((lit≤ tt, refl), ((lit≤ tt, refl), ((lit≤ tt, refl), tt)))) tt
+      by-equation (λ a. askOf (take (a .1 .1 .0) (a .1 .0)) (a .0 .now) (a .1 .1 .1 .0)) told (λ a z e s. s)
+      (lit≤ tt, (lit≤ tt, (lit≤ tt, (lit≤ tt, tt)))) tt

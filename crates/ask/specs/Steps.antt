@@ -11,7 +11,6 @@ use Rattle.paper.specs.Kind.{partOver}
 use Rattle.paper.specs.File.{FT}
 use Rattle.paper.specs.Rows.{row, first}
 use Rattle.paper.specs.Refusal.{theFault, phaseWrong}
-use Rattle.ask.specs.Rules.{earthGone}
 use Rattle.ask.specs.declared.question.Question.{Question}
 use Rattle.ask.specs.Question.{asking}
 
@@ -19,14 +18,13 @@ use Rattle.ask.specs.Question.{asking}
 unfoldable pub unreadBy : List ℕ → ℕ
 unreadBy s = cond (not (eqb (length s) 20)) 12 (cond (not (eqb (u16At s 0) FT)) 13 0)
 
--- 15 to 19, of a fault at board k of n, whose zero sequence starts at `start`
-unfoldable pub askedAt : Fault → ℕ → ℕ → ℕ → ℕ → Question
-askedAt f k start n room =
+-- 15 to 19, of a fault at board k of n
+unfoldable pub askedAt : Fault → ℕ → ℕ → ℕ → Question
+askedAt f k n room =
     let rows =
     row 15 (ltb 3 (f .kind)) 0 theFault
     ∷ row 16 (phaseWrong f) 0 theFault
     ∷ row 17 (partOver 1365 (f .zf)) 0 theFault
-    ∷ row 18 (earthGone f start) k theFault
     ∷ row 19 (ltb room (13 + 24 * n)) 0 (part FaultBytes 0 0)
     ∷ []
     in

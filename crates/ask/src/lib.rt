@@ -5,8 +5,6 @@ mod rules;
 ghost use mathlib.Core.Path.{_≡_};
 ghost use Prim.Native.Nat.{_≤_};
 ghost use lib.ListN.{take};
-ghost use Rattle.node.specs.Node.{noNode};
-ghost use Rattle.node.specs.Tables.{table, nodesOf};
 ghost use Rattle.ask.specs.Ask.{askOf};
 use crate::question::Question;
 use crate::question::at_board;
@@ -14,25 +12,22 @@ use crate::question::refused;
 use crate::question::unread;
 use file::bytes::fault_of;
 use label::search::lookup;
-use node::Node;
 use paper::Board;
 
 // Bytes that are not read are shown whole: all that there are for 12, the fault's 20 for 13.
-// Board k's node stands at k - 1, behind its feeder's: it says where the board's zero sequence starts.
-pub fn ask(flt: &[u8], boards: [Board; 256], nodes: [Node; 256], n: usize, room: usize) -> Question
-    requires { ⌜ (n ≤ 256) × (nodes ≡ table noNode (nodesOf (take n boards))) ⌝ }
+pub fn ask(flt: &[u8], boards: [Board; 256], n: usize, room: usize) -> Question
+    requires { ⌜ n ≤ 256 ⌝ }
     ensures { λ r. ⌜ r ≡ askOf (take n boards) (now (flt .entry)) room ⌝ }
 {
     let number = unread(flt);
     if number != 0 {
-        return refused(number, 0, flt.len());
+        return refused(number, flt.len());
     }
     let fault = fault_of(flt);
     let label = fault.label;
     let k = lookup(boards, n, label);
     if k == 0 {
-        return refused(14, 0, 20);
+        return refused(14, 20);
     }
-    let i = k - 1;
-    at_board(fault, k as u16, nodes[i].start, n, room)
+    at_board(fault, k as u16, n, room)
 }

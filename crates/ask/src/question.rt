@@ -22,9 +22,9 @@ pub struct Question {
     pub k: u16,
 }
 
-// The part is the first bytes of the fault.
-pub(crate) fn refused(number: u8, place: u16, len: usize) -> Question
-    ensures { λ r. ⌜ r ≡ refusedQuestion (record { part = part FaultBytes 0 len; place = place; number = number }) ⌝ }
+// No rule of a fault has a place. The part is the first bytes of the fault.
+pub(crate) fn refused(number: u8, len: usize) -> Question
+    ensures { λ r. ⌜ r ≡ refusedQuestion (record { part = part FaultBytes 0 len; place = 0; number = number }) ⌝ }
 {
     let part = Part {
         whose: Lent::FaultBytes,
@@ -33,7 +33,7 @@ pub(crate) fn refused(number: u8, place: u16, len: usize) -> Question
     };
     let why = Refusal {
         part,
-        place,
+        place: 0,
         number,
     };
     let zf = Ohms { r: 0, x: 0 };
@@ -64,20 +64,17 @@ pub(crate) fn unread(flt: &[u8]) -> u8
     0
 }
 
-// 15 to 19, of a fault at board k of n, whose zero sequence starts at start.
-pub(crate) fn at_board(fault: Fault, k: u16, start: u16, n: usize, room: usize) -> Question
+// 15 to 19, of a fault at board k of n.
+pub(crate) fn at_board(fault: Fault, k: u16, n: usize, room: usize) -> Question
     requires { ⌜ n ≤ 256 ⌝ }
-    ensures { λ r. ⌜ r ≡ askedAt fault k start n room ⌝ }
+    ensures { λ r. ⌜ r ≡ askedAt fault k n room ⌝ }
 {
-    let number = broken(fault, start);
-    if number == 18 {
-        return refused(18, k, 20);
-    }
+    let number = broken(fault);
     if number != 0 {
-        return refused(number, 0, 20);
+        return refused(number, 20);
     }
     if room < 13 + 24 * n {
-        return refused(19, 0, 0);
+        return refused(19, 0);
     }
     Question {
         outcome: Outcome::Accepted,

@@ -1,8 +1,8 @@
-// The rules that look at a fault and at where its board's zero sequence starts: 15 to 18.
+// The rules that look at a fault alone: 15 to 17.
 ghost use mathlib.Core.Path.{_≡_};
 ghost use Rattle.paper.specs.Kind.{partOver};
 ghost use Rattle.paper.specs.Refusal.{phaseWrong};
-ghost use Rattle.ask.specs.Rules.{earthGone, broken};
+ghost use Rattle.ask.specs.Rules.{broken};
 use kind::impedance::over;
 use paper::Fault;
 
@@ -24,19 +24,11 @@ fn zf_over(f: Fault) -> bool
     over(MOST, zf)
 }
 
-// 18, by where the board's zero sequence starts (0: nowhere)
-fn earth_missing(f: Fault, start: u16) -> bool
-    ensures { λ r. ⌜ r ≡ earthGone f start ⌝ }
-{
-    ((f.kind == 1) | (f.kind == 3)) & (start == 0)
-}
-
-// 15 to 18: the number of the first that is broken, or 0.
-pub(crate) fn broken(f: Fault, start: u16) -> u8
-    ensures { λ n. ⌜ n ≡ broken f start ⌝ }
+// 15 to 17: the number of the first that is broken, or 0.
+pub(crate) fn broken(f: Fault) -> u8
+    ensures { λ n. ⌜ n ≡ broken f ⌝ }
 {
     let too_large = zf_over(f);
-    let no_earth = earth_missing(f, start);
     if 3 < f.kind {
         return 15;
     }
@@ -45,9 +37,6 @@ pub(crate) fn broken(f: Fault, start: u16) -> u8
     }
     if too_large {
         return 17;
-    }
-    if no_earth {
-        return 18;
     }
     0
 }

@@ -1,6 +1,6 @@
 -- Off the chain a record carries nothing, and its phases show twelve zeros. Assumes nothing.
 use mathlib.Core.Path.{_≡_, sym, ap, _∙_}
-use mathlib.Core.Bool.{Bool, false}
+use mathlib.Core.Bool.{Bool, false, _&&_}
 use mathlib.Core.List.{List, [], _∷_}
 use Prim.Native.Nat.{ℕ, _+_, _*_, _%_}
 use lib.IntN.{ℤ, pos}
@@ -8,12 +8,10 @@ use Rattle.lemmas.proofs.Solver.{con, _⊕_, _⊗_}
 use Rattle.lemmas.proofs.Solve.{solve}
 use Rattle.turn.specs.Number.{powerN}
 use Rattle.turn.proofs.Ring.{Nring}
+use Rattle.paper.specs.declared.Seq.{Seq}
 use Rattle.paper.specs.Fault.{nilN, seq}
 use Rattle.paper.specs.Phase.{onlyIf, four, shows, phase, phases}
-use Rattle.node.specs.declared.Node.{Node}
 use Rattle.chain.specs.Carried.{carriedOf}
-use Rattle.board.specs.declared.front.Faulted.{Faulted}
-use Rattle.board.specs.Numbers.{passedOf}
 
 -- a sum of nothing, turned
 shows-nothing : (p sj sk i : ℕ) → shows p sj sk (seq nilN nilN nilN) i ≡ nilN
@@ -32,6 +30,6 @@ phases-nothing p sj sk =
     let c = shows-nothing p sj sk ((2 + 2 * p) % 3) in
     sym (λ i. four (a i) ∷ four (b i) ∷ four (c i) ∷ [])
 
-pub passed-nothing : (p sj sk : ℕ) (f : Faulted) (on : Bool) (n : Node) → on ≡ false → zeros ≡ phases p sj sk (passedOf f on n)
-unfolding passedOf carriedOf onlyIf
-passed-nothing p sj sk f on n e = phases-nothing p sj sk ∙ ap (λ (b : Bool). phases p sj sk (passedOf f b n)) (sym e)
+pub passed-nothing : (p sj sk : ℕ) (i : Seq) (on here earthed : Bool) → on ≡ false → zeros ≡ phases p sj sk (carriedOf on (on && here && earthed) i)
+unfolding carriedOf onlyIf
+passed-nothing p sj sk i on here earthed e = phases-nothing p sj sk ∙ ap (λ (b : Bool). phases p sj sk (carriedOf b (b && here && earthed) i)) (sym e)

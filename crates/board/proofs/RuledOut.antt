@@ -8,23 +8,24 @@ use lib.IntN.{ℤ, pos, negsuc}
 use lib.ListN.{replicate, length}
 use base.Fml.{Lft}
 use denote.Ref.{RefT}
-use Rattle.lemmas.proofs.RuledOut.{_↛_, RuledOut, ever, ends, by, by-equation, list, wholes, lent}
+use Rattle.lemmas.proofs.RuledOut.{_↛_, RuledOut, ever, ends, by, by-equation, bool, wholes, lent}
 use Rattle.turn.specs.declared.Num.{Num}
-use Rattle.turn.specs.Number.{wholeN, complexN, _+N_, negN, _·N_, timesT, _*N_, powerN}
+use Rattle.turn.specs.Number.{wholeN, complexN, _+N_, negN, _·N_, timesT, _*N_, powerN, conjN, squareN}
 use Rattle.turn.specs.Bounds.{Within}
 use Rattle.turn.proofs.Told.{within}
 use Rattle.paper.specs.declared.Ohms.{Ohms}
 use Rattle.paper.specs.declared.Seq.{Seq}
 use Rattle.paper.specs.declared.Fault.{Fault}
-use Rattle.paper.proofs.Told.{small}
-use Rattle.paper.specs.Bounds.{Plane, EachSeq, mostI, mostW}
+use Rattle.paper.proofs.Told.{sequences, small}
+use Rattle.paper.specs.Bounds.{AtMost, Plane, EachSeq, mostI, mostW, mostLift}
 use Rattle.paper.specs.Kind.{ohms}
 use Rattle.paper.specs.Fault.{nilN, seq, Fault·open}
-use Rattle.paper.specs.Phase.{four, phases, Phase·open}
+use Rattle.paper.specs.Phase.{onlyIf, four, phases, Phase·open}
 use Rattle.paper.specs.Answer.{flat}
 use Rattle.node.specs.declared.Node.{Node}
 use Rattle.chain.specs.declared.share.Shared.{Shared}
 use Rattle.chain.specs.Carried.{carriedOf}
+use Rattle.fault.specs.Short.{shortedOf}
 use Rattle.board.specs.declared.front.Faulted.{Faulted}
 use Rattle.board.specs.Put.{twelveOf}
 use Rattle.board.specs.Faulted.{faultedFrom, topOf, FaultSmall}
@@ -140,35 +141,56 @@ abbrev ohm : Ohms
 ohm = ohms 1 0
 
 abbrev node : ℕ → ℕ → Node
-node start turn = record { z1 = ohm; z2 = ohm; z0 = ohm; feeder = 0; start = start; turn = turn }
+node head turn = record { z1 = ohm; z2 = ohm; z0 = ohm; feeder = 0; head = head; start = head; turn = turn }
+
+abbrev unearthed : Node
+unearthed = record { z1 = ohm; z2 = ohm; z0 = ohms 0 0; feeder = 0; head = 1; start = 0; turn = 5 }
 
 abbrev to-earth : Fault
 to-earth = record { zf = ohms 0 0; label = replicate 12 32; kind = 1; phase = 2 }
 
-abbrev faulted : Seq → ℤ → ℕ → ℕ → ℕ → Faulted
-faulted i d s t p = record { i = i; d = d; start = s; turn = t; phase = p }
+abbrev faulted : Seq → Num → ℤ → ℕ → ℕ → ℕ → Bool → Faulted
+faulted i up d h t p e = record { i = i; lift = up; d = d; head = h; turn = t; phase = p; earthed = e }
 
 abbrev thrice : Num
 thrice = wholeN (pos 3)
 
+abbrev none : Seq
+none = seq nilN nilN nilN
+
 abbrev fields : Faulted → ℕ
-fields f = list (f .start ∷ f .turn ∷ f .phase ∷ [])
+fields f = wholes (f .d ∷ pos (f .head) ∷ pos (f .turn) ∷ pos (f .phase) ∷ pos (bool (f .earthed)) ∷ four (f .lift) ++ sequences (f .i))
 
 pub fault-at-not : RuledOut (fault-at.Pre tt) (ever (fault-at.Post tt)) (
-    (node 1 5, (to-earth, tt)) ↛ faulted (seq thrice thrice thrice) (pos 9) 1 5 1  -- currents_of_another_phase
-    ∷ (node 1 5, (to-earth, tt)) ↛ faulted (seq thrice thrice thrice) (pos 9) 5 5 2  -- start_is_turn
+    (node 1 5, (to-earth, tt)) ↛ faulted (seq thrice thrice thrice) nilN (pos 9) 1 5 1 true  -- currents_of_another_phase
+    ∷ (node 1 5, (to-earth, tt)) ↛ faulted (seq thrice thrice thrice) nilN (pos 9) 5 5 2 true  -- head_is_turn
+    ∷ (node 1 5, (to-earth, tt)) ↛ faulted (seq thrice thrice thrice) nilN (pos 9) 1 5 2 false  -- return_lost
+    ∷ (unearthed, (to-earth, tt)) ↛ faulted none nilN (pos 1) 1 5 2 false  -- lift_lost
+    ∷ (unearthed, (to-earth, tt)) ↛ faulted (seq (wholeN (pos 2)) (wholeN (pos 2)) (wholeN (pos 2))) nilN (pos 4) 1 5 2 false  -- missing_return_is_zero
     ∷ [])
-unfolding faultedFrom
-fault-at-not =
-    by-equation (λ a. faultedFrom (a .0) (a .1 .0)) fields (λ a z e s. s)
-    ((small tt, small tt, small tt, small tt), ((small tt, small tt, small tt, small tt), tt)) tt
+unfolding faultedFrom shortedOf onlyIf Fault·open _+N_ negN _·N_ timesT _*N_ powerN conjN squareN
+fault-at-not = by-equation (λ a. faultedFrom (a .0) (a .1 .0)) fields (λ a z e s. s) (allowed, (allowed, (allowed, (without, (without, tt))))) tt
+  where
+    allowed : AtMost 4095 ohm × AtMost 4095 ohm × AtMost 4095 ohm × AtMost 1365 (ohms 0 0)
+    allowed = (small tt, small tt, small tt, small tt)
 
--- ---- the numbers of the fault, and of a board: D is 1, so that voltages are powers of t where nothing is shared; I1 is j, or I0 is 1
-abbrev forth : ℕ → Faulted
-forth k = faulted (seq j nilN nilN) (pos 1) k 0 0
+    without : AtMost 4095 ohm × AtMost 4095 ohm × AtMost 4095 (ohms 0 0) × AtMost 1365 (ohms 0 0)
+    without = (small tt, small tt, small tt, small tt)
 
-abbrev earth : ℕ → Faulted
-earth k = faulted (seq nilN nilN one) (pos 1) k 0 0
+-- ---- the numbers of the fault, and of a board: D is 1, so that voltages are powers of t where nothing is shared or lifted; I1 is j, or I0 is 1. The faulted board's part has head 1
+abbrev forth : Faulted
+forth = faulted (seq j nilN nilN) nilN (pos 1) 1 0 0 true
+
+abbrev earth : Bool → Faulted
+earth e = faulted (seq nilN nilN one) nilN (pos 1) 1 0 0 e
+
+-- one phase to earth without earth return: no current, and W0 is -1
+abbrev risen : Faulted
+risen = faulted none (negN one) (pos 1) 1 0 0 false
+
+-- W1 of 1 with a W0
+abbrev with-zero : Num → List (List ℤ)
+with-zero n = four (powerN 0 +N n) ∷ four (powerN 8 +N n) ∷ four (powerN 4 +N n) ∷ []
 
 abbrev alone : Shared
 alone = record { z1 = ohms 0 0; z2 = ohms 0 0; z0 = ohms 0 0 }
@@ -179,11 +201,22 @@ alone-small = record { share1 = small tt; share2 = small tt; share0 = small tt }
 i-nil : Plane mostI nilN
 i-nil = plane mostI (within mostI nilN tt)
 
-forth-small : (k : ℕ) → FaultSmall (forth k)
-forth-small k = record { d-small = record { small = omega arith }; i-small = each mostI (plane mostI (within mostI j tt)) i-nil i-nil; turn-small = omega arith; phase-to = omega arith }
+-- D of 1, no turn and odd phase a
+fault-small : {i : Seq} {up : Num} {e : Bool} → EachSeq (Plane mostI) i → Plane mostLift up → FaultSmall (faulted i up (pos 1) 1 0 0 e)
+fault-small h l = record { d-small = record { small = omega arith }; i-small = h; lift-small = l; turn-small = omega arith; phase-to = omega arith }
 
-earth-small : (k : ℕ) → FaultSmall (earth k)
-earth-small k = record { d-small = record { small = omega arith }; i-small = each mostI i-nil i-nil (plane mostI (within mostI one tt)); turn-small = omega arith; phase-to = omega arith }
+no-lift : Plane mostLift nilN
+no-lift = plane mostLift (within mostLift nilN tt)
+
+forth-small : FaultSmall forth
+forth-small = fault-small (each mostI (plane mostI (within mostI j tt)) i-nil i-nil) no-lift
+
+earth-small : (e : Bool) → FaultSmall (earth e)
+earth-small e = fault-small (each mostI i-nil i-nil (plane mostI (within mostI one tt))) no-lift
+
+risen-small : FaultSmall risen
+unfolding negN
+risen-small = fault-small (each mostI i-nil i-nil i-nil) (plane mostLift (within mostLift (negN one) tt))
 
 asked : {f : Faulted} → FaultSmall f → (length (found 24 .now) ≡ 24) × FaultSmall f × ShareSmall alone × (0 ≤ 2816)
 asked h = (refl, h, alone-small, omega arith)
@@ -193,22 +226,36 @@ board-call f on n = (found 24, (f, (on, (n, (alone, tt)))))
 
 module _ (κ : Lft) where
   pub top-not : RuledOut (top.Pre (κ, tt)) (ends (top.Post (κ, tt))) (
-      (found 13, (forth 1, tt)) ↛ left (found 13, (forth 1, tt)) (pos 1 ∷ flat (turns 2 10 6))  -- fault_turned
-      ∷ (found 13, (forth 1, tt)) ↛ left (found 13, (forth 1, tt)) (pos 1 ∷ flat (turns 4 0 8))  -- fault_turned_back
+      (found 13, (forth, tt)) ↛ left (found 13, (forth, tt)) (pos 1 ∷ flat (turns 2 10 6))  -- fault_turned
+      ∷ (found 13, (forth, tt)) ↛ left (found 13, (forth, tt)) (pos 1 ∷ flat (turns 4 0 8))  -- fault_turned_back
       ∷ [])
   unfolding topOf flat Phase·open _+N_ negN _·N_ timesT _*N_ powerN
-  top-not = by seen (λ a. wholes (topOf (a .1 .0))) (λ a z s. ap wholes s) ((refl, forth-small 1), ((refl, forth-small 1), tt)) tt
+  top-not = by seen (λ a. wholes (topOf (a .1 .0))) (λ a z s. ap wholes s) ((refl, forth-small), ((refl, forth-small), tt)) tt
 
   pub board-not : RuledOut (board.Pre (κ, tt)) (ends (board.Post (κ, tt))) (
-      board-call (forth 1) true (node 1 0) ↛ left (board-call (forth 1) true (node 1 0)) (flat (turns 3 11 7) ++ flat (turns 0 8 4))  -- currents_first
-      ∷ board-call (forth 1) true (node 1 0) ↛ left (board-call (forth 1) true (node 1 0)) (flat (turns 0 8 4) ++ flat (turns 0 8 4))  -- voltages_twice
-      ∷ board-call (forth 1) true (node 1 0) ↛ left (board-call (forth 1) true (node 1 0)) (flat (turns 0 8 4) ++ flat nothing)  -- chain_carries_nothing
-      ∷ board-call (forth 1) false (node 1 0) ↛ left (board-call (forth 1) false (node 1 0)) (flat (turns 0 8 4) ++ flat (turns 0 0 0))  -- none_is_one
-      ∷ board-call (forth 1) true (node 1 1) ↛ left (board-call (forth 1) true (node 1 1)) (flat (turns 1 9 5) ++ flat (turns 4 0 8))  -- turned_back
-      ∷ board-call (earth 1) true (node 2 0) ↛ left (board-call (earth 1) true (node 2 0)) (flat (turns 0 8 4) ++ flat (turns 0 0 0))  -- i0_through_kind_4
-      ∷ board-call (earth 0) true (node 0 0) ↛ left (board-call (earth 0) true (node 0 0)) (flat (turns 0 8 4) ++ flat (turns 0 0 0))  -- i0_without_earth
+      board-call forth true (node 1 0) ↛ left (board-call forth true (node 1 0)) (flat (turns 3 11 7) ++ flat (turns 0 8 4))  -- currents_first
+      ∷ board-call forth true (node 1 0) ↛ left (board-call forth true (node 1 0)) (flat (turns 0 8 4) ++ flat (turns 0 8 4))  -- voltages_twice
+      ∷ board-call forth true (node 1 0) ↛ left (board-call forth true (node 1 0)) (flat (turns 0 8 4) ++ flat nothing)  -- chain_carries_nothing
+      ∷ board-call forth false (node 1 0) ↛ left (board-call forth false (node 1 0)) (flat (turns 0 8 4) ++ flat (turns 0 0 0))  -- none_is_one
+      ∷ board-call forth true (node 1 1) ↛ left (board-call forth true (node 1 1)) (flat (turns 1 9 5) ++ flat (turns 4 0 8))  -- turned_back
+      ∷ board-call (earth true) true (node 2 0) ↛ left (board-call (earth true) true (node 2 0)) (flat (turns 0 8 4) ++ flat (turns 0 0 0))  -- i0_through_kind_4
+      ∷ board-call (earth true) true (node 1 0) ↛ left (board-call (earth true) true (node 1 0)) (flat (turns 0 8 4) ++ flat nothing)  -- i0_lost
+      ∷ board-call (earth false) true (node 1 0) ↛ left (board-call (earth false) true (node 1 0)) (flat (turns 0 8 4) ++ flat (turns 0 0 0))  -- i0_without_return
+      ∷ board-call risen true (node 1 0) ↛ left (board-call risen true (node 1 0)) (flat (turns 0 8 4) ++ flat nothing)  -- not_lifted
+      ∷ board-call risen false (node 1 0) ↛ left (board-call risen false (node 1 0)) (flat (turns 0 8 4) ++ flat nothing)  -- lifted_on_the_chain_only
+      ∷ board-call risen false (node 2 0) ↛ left (board-call risen false (node 2 0)) (flat (with-zero (negN one)) ++ flat nothing)  -- lifted_elsewhere
+      ∷ board-call risen true (node 1 0) ↛ left (board-call risen true (node 1 0)) (flat (with-zero one) ++ flat nothing)  -- lowered
       ∷ [])
   unfolding numbersOf leftOf passedOf carriedOf flat Phase·open Fault·open _+N_ negN _·N_ timesT _*N_ powerN
   board-not =
       by seen (λ a. wholes (numbersOf (a .1 .0) (a .1 .1 .0) (a .1 .1 .1 .0) (a .1 .1 .1 .1 .0))) (λ a z s. ap wholes s)
-      (asked (forth-small 1), (asked (forth-small 1), (asked (forth-small 1), (asked (forth-small 1), ((refl, forth-small 1, alone-small, omega arith), (asked (earth-small 1), (asked (earth-small 0), tt))))))) tt
+      (f, (f, (f, (f, ((refl, forth-small, alone-small, omega arith), (e true, (e true, (e false, (r, (r, (r, (r, tt)))))))))))) tt
+    where
+      f : (length (found 24 .now) ≡ 24) × FaultSmall forth × ShareSmall alone × (0 ≤ 2816)
+      f = asked forth-small
+
+      e : (b : Bool) → (length (found 24 .now) ≡ 24) × FaultSmall (earth b) × ShareSmall alone × (0 ≤ 2816)
+      e b = asked (earth-small b)
+
+      r : (length (found 24 .now) ≡ 24) × FaultSmall risen × ShareSmall alone × (0 ≤ 2816)
+      r = asked risen-small

@@ -9,14 +9,17 @@ use fault::short;
 use node::Node;
 use paper::Fault;
 use paper::Seq;
+use turn::Num;
 
-// The fault at its board: the currents over D, D, and the board's own start of zero sequence, turn and odd phase.
+// The fault at its board: the currents over D, what W0 is lifted by in the board's part, D, the head of that part, the board's turn, the odd phase, and whether the part has an earth return.
 pub struct Faulted {
     pub i: Seq,
+    pub lift: Num,
     pub d: i64,
-    pub start: u16,
+    pub head: u16,
     pub turn: u16,
     pub phase: u8,
+    pub earthed: bool,
 }
 
 // The fault at a board.
@@ -28,15 +31,19 @@ pub fn fault_at(at: Node, f: Fault) -> Faulted
     let z2 = at.z2;
     let z0 = at.z0;
     let zf = f.zf;
-    let s = short(z1, z2, z0, zf, f.kind);
+    let earthed = at.start != 0;
+    let s = short(z1, z2, z0, zf, f.kind, earthed);
     let i = s.i;
+    let lift = s.lift;
     let d = s.d;
     Faulted {
         i,
+        lift,
         d,
-        start: at.start,
+        head: at.head,
         turn: at.turn,
         phase: f.phase,
+        earthed,
     }
 }
 

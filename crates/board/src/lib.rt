@@ -3,40 +3,45 @@ pub mod front;
 mod phases;
 mod put;
 
+ghost use mathlib.Core.Bool.{_&&_};
 ghost use mathlib.Core.Path.{_≡_};
 ghost use Prim.Native.Nat.{_≤_};
 ghost use lib.ListN.{length};
 ghost use Rattle.paper.specs.Bounds.{Plane, EachSeq, mostW};
-ghost use Rattle.paper.specs.Phase.{phases};
+ghost use Rattle.paper.specs.Phase.{onlyIf, voltageOf, phases};
+ghost use Rattle.chain.specs.Carried.{carriedOf};
 ghost use Rattle.board.specs.Faulted.{FaultSmall};
-ghost use Rattle.board.specs.Numbers.{ShareSmall, leftOf, passedOf, numbersOf};
+ghost use Rattle.board.specs.Numbers.{ShareSmall, numbersOf};
 use crate::front::Faulted;
 use crate::phases::phases;
 use crate::put::both;
 use chain::carried::carried;
+use chain::carried::only_if;
 use chain::share::Shared;
 use fault::volts::voltage;
 use node::Node;
 use paper::Seq;
 
-// The referred voltages of a board that shares s with the faulted one.
-fn left(f: Faulted, s: Shared) -> Seq
+// The referred voltages of a board that shares s with the faulted one. `here`: it lies in the faulted board's part.
+fn left(f: Faulted, here: bool, s: Shared) -> Seq
     requires { ⌜ FaultSmall f × ShareSmall s ⌝ }
-    ensures { λ r. ⌜ r ≡ leftOf f s ⌝ }
+    ensures { λ r. ⌜ r ≡ voltageOf (f .d) (f .i) (s .z1) (s .z2) (s .z0) (onlyIf here (f .lift)) ⌝ }
 {
     let i = f.i;
+    let lift = f.lift;
     let z1 = s.z1;
     let z2 = s.z2;
     let z0 = s.z0;
-    voltage(f.d, i, z1, z2, z0)
+    let up = only_if(here, lift);
+    voltage(f.d, i, z1, z2, z0, up)
 }
 
 // The currents of a record.
-fn passed(f: Faulted, on: bool, node: Node) -> Seq
-    ensures { λ r. ⌜ r ≡ passedOf f on node ⌝ }
+fn passed(f: Faulted, on: bool, here: bool) -> Seq
+    ensures { λ r. ⌜ r ≡ carriedOf on (on && here && f .earthed) (f .i) ⌝ }
 {
     let i = f.i;
-    let earth = on & (node.start == f.start) & (f.start != 0);
+    let earth = on & here & f.earthed;
     carried(on, earth, i)
 }
 
@@ -50,16 +55,16 @@ fn shown(f: Faulted, turn: u16, x: Seq) -> [[i64; 4]; 3]
 }
 
 // The phases of a record's currents. Off the chain it carries nothing, so there is nothing to turn: most records of a large network.
-fn flowing(f: Faulted, on: bool, node: Node) -> [[i64; 4]; 3]
-    requires { ⌜ (FaultSmall f) × (node .turn ≤ 2816) ⌝ }
-    ensures { λ r. ⌜ r ≡ phases (f .phase) (node .turn) (f .turn) (passedOf f on node) ⌝ }
+fn flowing(f: Faulted, on: bool, here: bool, turn: u16) -> [[i64; 4]; 3]
+    requires { ⌜ (FaultSmall f) × (turn ≤ 2816) ⌝ }
+    ensures { λ r. ⌜ r ≡ phases (f .phase) turn (f .turn) (carriedOf on (on && here && f .earthed) (f .i)) ⌝ }
 {
     if !on {
         let none: [i64; 4] = [0, 0, 0, 0];
         return [none, none, none];
     }
-    let i = passed(f, on, node);
-    shown(f, node.turn, i)
+    let i = passed(f, on, here);
+    shown(f, turn, i)
 }
 
 // The 24 numbers of a board, over its part of the buffer.
@@ -67,8 +72,9 @@ pub fn board(out: &mut [i64], f: Faulted, on: bool, node: Node, s: Shared)
     requires { ⌜ (length (now out) ≡ 24) × (FaultSmall f) × (ShareSmall s) × (node .turn ≤ 2816) ⌝ }
     ensures { λ _. ⌜ now (out .exit) ≡ numbersOf f on node s ⌝ }
 {
-    let w = left(f, s);
+    let here = node.head == f.head;
+    let w = left(f, here, s);
     let v = shown(f, node.turn, w);
-    let c = flowing(f, on, node);
+    let c = flowing(f, on, here, node.turn);
     both(out, v, c);
 }

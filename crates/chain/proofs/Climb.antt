@@ -1,7 +1,7 @@
 -- The chain of a board, climbed and marked: the turns of the loop, and that it is the paper's chain. Assumes nothing.
 use mathlib.Core.Bool.{Bool, true, false, _||_, or-true, or-false}
 use mathlib.Core.List.{List, [], _∷_}
-use mathlib.Core.Path.{_≡_, refl, sym, _∙_, ap, subst}
+use mathlib.Core.Path.{_≡_, refl, _∙_, ap, subst}
 use Prim.Native.Nat.{ℕ, zero, suc, _-_, _≤_, _<_}
 use native.Mathlib.Omega.{arith}
 use lib.Dec.{eqb}
@@ -9,12 +9,12 @@ use lib.ListN.{length, getD, set, replicate, length-set, length-replicate, getD-
 use lib.Seq.{getD-set-same, getD-set-other}
 use borrow.Author.Tests.{eqb-true, eqb-false}
 use Rattle.paper.specs.Bytes.{oneOf}
-use Rattle.paper.specs.Chain.{Boards, feederOf, chain, climb as paper-climb}
+use Rattle.paper.specs.Chain.{Boards, feederOf, climb, chain}
 use Rattle.follows.proofs.Lists.{On, on-here, on-there}
 use Rattle.follows.proofs.Chain.{feeder-earlier, chain-between}
 use Rattle.node.specs.declared.Node.{Node}
 use Rattle.node.specs.Node.{nodeOf, noNode}
-use Rattle.chain.specs.Marked.{FromEarlier, climb, marked, marksOf}
+use Rattle.chain.specs.Marked.{FromEarlier, feederIn, marked, marksOf}
 
 -- ---- the loop: what is still to be marked, marked, is the whole
 pub record Climbed (nodes : List Node) (k : ℕ) (on : List Bool) (at : ℕ) : Type 0 where
@@ -22,7 +22,7 @@ pub record Climbed (nodes : List Node) (k : ℕ) (on : List Bool) (at : ℕ) : T
   pub enough : at ≤ steps
   pub to : at ≤ 256
   pub places : length on ≡ 256
-  pub marks : marked (climb steps nodes at) on ≡ marksOf nodes k
+  pub marks : marked (climb steps (feederIn nodes) at) on ≡ marksOf nodes k
 
 pub climb-starts : (nodes : List Node) (k : ℕ) → k ≤ 256 → Climbed nodes k (replicate 256 false) k
 unfolding marksOf
@@ -30,14 +30,14 @@ climb-starts nodes k h = record { steps = k; enough = omega arith; to = h; place
 
 pub climb-goes : (nodes : List Node) (k at : ℕ) (on : List Bool) → FromEarlier nodes → 1 ≤ at → Climbed nodes k on at
     → Climbed nodes k (set on (at - 1) true) (getD nodes (at - 1) noNode .feeder)
-unfolding climb marked
+unfolding climb feederIn marked
 climb-goes nodes k zero on f l c = absurd (omega arith)
 climb-goes nodes k (suc i) on f l c = subst (λ (m : ℕ). Climbed nodes k (set on (suc i - 1) true) (getD nodes m noNode .feeder)) here (go (c .steps) (c .enough) (c .marks))
   where
     here : i ≡ suc i - 1
     here = omega arith
 
-    go : (s : ℕ) → suc i ≤ s → marked (climb s nodes (suc i)) on ≡ marksOf nodes k → Climbed nodes k (set on (suc i - 1) true) (getD nodes i noNode .feeder)
+    go : (s : ℕ) → suc i ≤ s → marked (climb s (feederIn nodes) (suc i)) on ≡ marksOf nodes k → Climbed nodes k (set on (suc i - 1) true) (getD nodes i noNode .feeder)
     go zero h e = absurd (omega arith)
     go (suc s) h e =
         let b = f .earlier i in
@@ -48,21 +48,21 @@ pub climb-ends : (nodes : List Node) (k : ℕ) (on : List Bool) → Climbed node
 unfolding climb marked
 climb-ends nodes k on c = go (c .steps) (c .marks)
   where
-    go : (s : ℕ) → marked (climb s nodes 0) on ≡ marksOf nodes k → on ≡ marksOf nodes k
+    go : (s : ℕ) → marked (climb s (feederIn nodes) 0) on ≡ marksOf nodes k → on ≡ marksOf nodes k
     go zero e = e
     go (suc s) e = e
 
 -- ---- the paper's chain
 module _ (bs : Boards) (nodes : List Node) (are : (i : ℕ) → i < length bs → getD nodes i noNode ≡ nodeOf bs (suc i)) where
-  climb-is : (s r : ℕ) → r ≤ length bs → climb s nodes r ≡ paper-climb s bs r
-  unfolding climb paper-climb nodeOf
+  climb-is : (s r : ℕ) → r ≤ length bs → climb s (feederIn nodes) r ≡ climb s (feederOf bs) r
+  unfolding climb feederIn nodeOf
   climb-is zero r h = refl
   climb-is (suc s) zero h = refl
   climb-is (suc s) (suc i) h =
       let e : getD nodes i noNode .feeder ≡ feederOf bs (suc i) = ap (λ (n : Node). n .feeder) (are i (omega arith)) in
-      ap (λ l. suc i ∷ l) (ap (climb s nodes) e ∙ climb-is s (feederOf bs (suc i)) (omega (arith, feeder-earlier bs i)))
+      ap (λ l. suc i ∷ l) (ap (climb s (feederIn nodes)) e ∙ climb-is s (feederOf bs (suc i)) (omega (arith, feeder-earlier bs i)))
 
-  pub chain-is : (k : ℕ) → k ≤ length bs → climb k nodes k ≡ chain bs k
+  pub chain-is : (k : ℕ) → k ≤ length bs → climb k (feederIn nodes) k ≡ chain bs k
   unfolding chain
   chain-is k h = climb-is k k h
 

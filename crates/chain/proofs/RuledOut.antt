@@ -10,18 +10,20 @@ use Rattle.lemmas.proofs.RuledOut.{_↛_, RuledOut, ever, by-equation, bool, li
 use Rattle.turn.specs.Number.{wholeN}
 use Rattle.paper.specs.declared.Seq.{Seq}
 use Rattle.paper.specs.Kind.{ohms}
+use Rattle.paper.specs.Chain.{climb}
 use Rattle.paper.specs.Fault.{seq}
-use Rattle.paper.specs.Phase.{onlyIf}
+use Rattle.paper.specs.Phase.{onlyIf, four}
 use Rattle.paper.proofs.Told.{parts, sequences}
 use Rattle.node.specs.declared.Node.{Node}
 use Rattle.node.specs.Node.{noNode}
 use Rattle.chain.specs.declared.share.Shared.{Shared}
 use Rattle.chain.specs.Share.{noShare, shareFrom}
 use Rattle.chain.specs.Carried.{carriedOf}
-use Rattle.chain.specs.Marked.{FromEarlier, climb, marked, marksOf}
+use Rattle.chain.specs.Marked.{FromEarlier, feederIn, marked, marksOf}
 use Rattle.chain.proofs.share.no_share.Reads as no-share
 use Rattle.chain.proofs.share.share.Reads as share
 use Rattle.chain.proofs.carried.carried.Reads as carried
+use Rattle.chain.proofs.carried.only_if.Reads as only-if
 use Rattle.chain.proofs.chain.Reads as chain
 
 -- ---- answers told apart
@@ -40,7 +42,7 @@ abbrev wholeSeq : ℕ → ℕ → ℕ → Seq
 wholeSeq i1 i2 i0 = seq (wholeN (pos i1)) (wholeN (pos i2)) (wholeN (pos i0))
 
 abbrev fed : ℕ → Node
-fed f = record { z1 = ohms 0 1; z2 = ohms 0 2; z0 = ohms 0 3; feeder = f; start = 1; turn = 0 }
+fed f = record { z1 = ohms 0 1; z2 = ohms 0 2; z0 = ohms 0 3; feeder = f; head = 1; start = 1; turn = 0 }
 
 -- two boards, one behind the other
 abbrev two : List Node
@@ -69,10 +71,17 @@ no-share-not = by-equation (λ a. noShare) ohms-told (λ a z e s. s) (tt, (tt, t
 pub share-not : RuledOut (share.Pre tt) (ever (share.Post tt)) (
     (true, (fed 0, (1, (shared 4 5 6, tt)))) ↛ shared 1 1 3  -- negative_like_positive
     ∷ (true, (fed 0, (1, (shared 4 5 6, tt)))) ↛ shared 4 2 3  -- own_and_feeder_exchanged
-    ∷ (true, (fed 0, (2, (shared 4 5 6, tt)))) ↛ shared 1 2 3  -- zero_of_any_start
+    ∷ (true, (fed 0, (2, (shared 4 5 6, tt)))) ↛ shared 1 2 3  -- zero_of_any_head
     ∷ [])
 unfolding shareFrom
 share-not = by-equation (λ a. shareFrom (a .0) (a .1 .0) (a .1 .1 .0) (a .1 .1 .1 .0)) ohms-told (λ a z e s. s) (tt, (tt, (tt, tt))) tt
+
+pub only-if-not : RuledOut (only-if.Pre tt) (ever (only-if.Post tt)) (
+    (true, (wholeN (pos 5), tt)) ↛ wholeN (pos 0)  -- lost_where_it_counts
+    ∷ (false, (wholeN (pos 5), tt)) ↛ wholeN (pos 5)  -- counted_everywhere
+    ∷ [])
+unfolding onlyIf
+only-if-not = by-equation (λ a. onlyIf (a .0) (a .1 .0)) (λ n. wholes (four n)) (λ a z e s. s) (tt, (tt, tt)) tt
 
 pub carried-not : RuledOut (carried.Pre tt) (ever (carried.Post tt)) (
     (true, (false, (wholeSeq 1 2 3, tt))) ↛ wholeSeq 1 2 3  -- i0_through_delta
@@ -86,5 +95,5 @@ pub chain-not : RuledOut (chain.Pre tt) (ever (chain.Post tt)) (
     (two, (2, tt)) ↛ (false ∷ true ∷ true ∷ replicate 253 false)  -- marked_from_0
     ∷ (two, (2, tt)) ↛ replicate 256 false  -- nothing_marked
     ∷ [])
-unfolding marksOf climb marked
+unfolding marksOf climb feederIn marked
 chain-not = by-equation (λ a. marksOf (a .0) (a .1 .0)) bits (λ a z e s. s) ((lit≤ tt, two-earlier), ((lit≤ tt, two-earlier), tt)) tt

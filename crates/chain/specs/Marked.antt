@@ -3,6 +3,7 @@ use mathlib.Core.Bool.{Bool, true, false}
 use mathlib.Core.List.{List, [], _∷_}
 use Prim.Native.Nat.{ℕ, zero, suc, _-_, _≤_}
 use lib.ListN.{getD, set, replicate}
+use Rattle.paper.specs.Chain.{climb}
 use Rattle.node.specs.declared.Node.{Node}
 use Rattle.node.specs.Node.{noNode}
 
@@ -10,11 +11,10 @@ use Rattle.node.specs.Node.{noNode}
 pub record FromEarlier (nodes : List Node) : Type 0 where
   pub earlier : (i : ℕ) → getD nodes i noNode .feeder ≤ i
 
--- the places from board r to the source, feeder by feeder
-unfoldable pub climb : ℕ → List Node → ℕ → List ℕ
-climb zero nodes r = []
-climb (suc steps) nodes zero = []
-climb (suc steps) nodes (suc i) = suc i ∷ climb steps nodes (getD nodes i noNode .feeder)
+-- the feeder that a node says, place by place
+unfoldable pub feederIn : List Node → ℕ → ℕ
+feederIn nodes zero = 0
+feederIn nodes (suc i) = getD nodes i noNode .feeder
 
 -- places, marked
 unfoldable pub marked : List ℕ → List Bool → List Bool
@@ -22,4 +22,4 @@ marked [] on = on
 marked (r ∷ rs) on = marked rs (set on (r - 1) true)
 
 unfoldable pub marksOf : List Node → ℕ → List Bool
-marksOf nodes k = marked (climb k nodes k) (replicate 256 false)
+marksOf nodes k = marked (climb k (feederIn nodes) k) (replicate 256 false)

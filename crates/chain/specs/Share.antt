@@ -14,11 +14,11 @@ noShare = record { z1 = ohms 0 0; z2 = ohms 0 0; z0 = ohms 0 0 }
 unfoldable pub sharedOf : Boards → ℕ → ℕ → Shared
 sharedOf bs k j = record { z1 = shared1 bs j k; z2 = shared2 bs j k; z0 = shared0 bs j k }
 
--- from what the feeder shares: all of the record's own sums on the chain, else the feeder's; no zero sequence where the starting records differ
+-- from what the feeder shares: all of the record's own sums on the chain, else the feeder's; no zero sequence where the heads of the parts differ
 unfoldable pub shareFrom : Bool → Node → ℕ → Shared → Shared
-shareFrom on node start up =
+shareFrom on node head up =
     record {
       z1 = cond on (node .z1) (up .z1);
       z2 = cond on (node .z2) (up .z2);
-      z0 = cond (eqb (node .start) start) (cond on (node .z0) (up .z0)) (ohms 0 0);
+      z0 = cond (eqb (node .head) head) (cond on (node .z0) (up .z0)) (ohms 0 0);
     }

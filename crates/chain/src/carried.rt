@@ -5,7 +5,8 @@ ghost use Rattle.chain.specs.Carried.{carriedOf};
 use paper::Seq;
 use turn::Num;
 
-fn only_if(on: bool, n: Num) -> Num
+// A number where it counts, else zero: a current on the chain, a lift in the faulted board's part.
+pub fn only_if(on: bool, n: Num) -> Num
     ensures { λ r. ⌜ r ≡ onlyIf on n ⌝ }
 {
     if on { n } else { Num::whole(0) }

@@ -30,9 +30,9 @@ fn pick(first: bool, a: Ohms, b: Ohms) -> Ohms
     if first { a } else { b }
 }
 
-// What a record shares, from what its feeder shares: all of its own sums on the chain, else the feeder's; no zero sequence where the two boards' starts differ.
-pub fn share(on: bool, node: Node, start: u16, up: Shared) -> Shared
-    ensures { λ r. ⌜ r ≡ shareFrom on node start up ⌝ }
+// What a record shares, from what its feeder shares: all of its own sums on the chain, else the feeder's; no zero sequence where the two boards' parts have other heads.
+pub fn share(on: bool, node: Node, head: u16, up: Shared) -> Shared
+    ensures { λ r. ⌜ r ≡ shareFrom on node head up ⌝ }
 {
     let none = Ohms { r: 0, x: 0 };
     let own1 = node.z1;
@@ -44,6 +44,6 @@ pub fn share(on: bool, node: Node, start: u16, up: Shared) -> Shared
     let z1 = pick(on, own1, up1);
     let z2 = pick(on, own2, up2);
     let on0 = pick(on, own0, up0);
-    let z0 = pick(node.start == start, on0, none);
+    let z0 = pick(node.head == head, on0, none);
     Shared { z1, z2, z0 }
 }

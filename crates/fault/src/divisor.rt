@@ -1,4 +1,5 @@
-// What the currents of the four faults are divided by.
+// What the currents of the four faults are divided by, where there is an earth return.
+ghost use mathlib.Core.Bool.{false};
 ghost use mathlib.Core.Path.{_≡_};
 ghost use Rattle.paper.specs.Bounds.{AtMost};
 ghost use Rattle.paper.specs.Fault.{numOf, G, Δ, shortOf};
@@ -44,7 +45,7 @@ pub(crate) fn divisor(z1: Ohms, z2: Ohms, z0: Ohms, zf: Ohms, kind: u8) -> Num
     requires { ⌜ AtMost 4095 z2 ⌝ }
     requires { ⌜ AtMost 4095 z0 ⌝ }
     requires { ⌜ AtMost 1365 zf ⌝ }
-    ensures { λ r. ⌜ r ≡ shortOf (numOf z1) (numOf z2) (numOf z0) (numOf zf) kind .divisor ⌝ }
+    ensures { λ r. ⌜ r ≡ shortOf (numOf z1) (numOf z2) (numOf z0) (numOf zf) false kind .divisor ⌝ }
 {
     let a = num_of(z1);
     let b = num_of(z2);

@@ -15,14 +15,16 @@ use Rattle.turn.specs.declared.Num.{Num}
 use Rattle.turn.specs.Bounds.{Within}
 use Rattle.turn.proofs.Within.{within-weak}
 use Rattle.paper.specs.Bytes.{oneOf}
-use Rattle.paper.specs.Chain.{chain, zeroChain, Z1, Z2, Z0, shared1, shared2, shared0, turnOf}
+use Rattle.paper.specs.Chain.{chain, joined, unearthed, zeroChain, Z1, Z2, Z0, shared1, shared2, shared0, turnOf}
 use Rattle.paper.specs.declared.Seq.{Seq}
-use Rattle.paper.specs.Phase.{Asked, theD, theI, voltage, onlyIf, current, phase, four, phases, faultCurrents, boardVoltages, recordCurrents}
+use Rattle.paper.specs.Phase.{Asked, theShort, theD, theI, lift, voltage, onlyIf, current, phase, four, phases, faultCurrents, boardVoltages, recordCurrents}
 use Rattle.paper.specs.Answer.{flat, ofBoard, ofBoards, numbers}
-use Rattle.paper.specs.Bounds.{AtMost, Plane, EachSeq, mostD, mostI, mostW}
+use Rattle.paper.specs.Bounds.{AtMost, Plane, EachSeq, mostD, mostI, mostW, mostLift}
 use Rattle.fits.proofs.Plane.{plane-whole, plane-weak}
+use Rattle.follows.proofs.Row.{kindAt}
+use Rattle.follows.proofs.Divisor.{theD-is, theI-is}
 use Rattle.follows.proofs.Shared.{shared1-small, shared2-small, shared0-small}
-use Rattle.fits.proofs.Sizes.{Ranged, D-most, currents-plane, voltageOf-plane, shows-fits}
+use Rattle.fits.proofs.Sizes.{Ranged, ranged-at, D-most, currents-plane, liftOf-plane, voltageOf-plane, shows-fits}
 
 -- ---- every number of a list
 pub data Smalls (b : ℕ) : List ℤ → Type 0 where
@@ -75,10 +77,10 @@ shares-small q {j} u =
       share0 = shared0-small (q .boards) (q .k) j 4095 (u .sum0);
     }
 
-pub only-if : (b : Bool) {n : Num} → Plane mostI n → Plane mostI (onlyIf b n)
+pub only-if : {most : ℕ} (b : Bool) {n : Num} → Plane most n → Plane most (onlyIf b n)
 unfolding onlyIf
 only-if true p = p
-only-if false p = plane-whole (record { small = lit≤ tt })
+only-if false p = plane-whole (record { small = omega arith })
 
 -- a current is narrower than a voltage
 pub as-wide : {X : Seq} → EachSeq (Plane mostI) X → EachSeq (Plane mostW) X
@@ -88,16 +90,18 @@ module _ (q : Asked) (s : Ranged (Z1 (q .boards) (q .k)) (Z2 (q .boards) (q .k))
   open Asked q using (boards, fault, k)
 
   pub theD-small : Small mostD (theD q)
-  unfolding theD
-  theD-small = record { small = D-most s (fault .kind) }
+  theD-small = let u = unearthed boards k in rw (theD-is q) (record { small = D-most (ranged-at u (fault .kind) s) (kindAt u (fault .kind)) })
 
   pub theI-plane : EachSeq (Plane mostI) (theI q)
-  unfolding theI
-  theI-plane = currents-plane s (fault .kind)
+  theI-plane = let u = unearthed boards k in rw (theI-is q) (currents-plane (ranged-at u (fault .kind) s) (kindAt u (fault .kind)))
+
+  pub lift-plane : Plane mostLift (lift q)
+  unfolding lift theD theI theShort
+  lift-plane = liftOf-plane s (unearthed boards k) (fault .kind)
 
   pub voltage-plane : {j : ℕ} → SharesSmall q j → EachSeq (Plane mostW) (voltage q j)
   unfolding voltage
-  voltage-plane h = voltageOf-plane theD-small theI-plane (h .share1) (h .share2) (h .share0)
+  voltage-plane {j} h = voltageOf-plane theD-small theI-plane (h .share1) (h .share2) (h .share0) (only-if (joined boards j k) lift-plane)
 
   pub current-plane : (j : ℕ) → EachSeq (Plane mostI) (current q j)
   unfolding current

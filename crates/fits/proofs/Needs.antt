@@ -14,8 +14,8 @@ use Rattle.paper.specs.declared.Ohms.{Ohms}
 use Rattle.paper.specs.declared.Seq.{Seq}
 use Rattle.paper.specs.Fault.{numOf}
 use Rattle.follows.proofs.Row.{GOf, rowOf}
-use Rattle.paper.specs.Bounds.{AtMost, Plane, EachSeq, mostD, mostI, mostW}
-use Rattle.fits.proofs.Plane.{plane-num, plane-whole, plane-add, plane-mul, plane-conj, addable, negatable, turnable, squarable, factors}
+use Rattle.paper.specs.Bounds.{AtMost, Plane, EachSeq, mostD, mostI, mostW, mostLift}
+use Rattle.fits.proofs.Plane.{plane-num, plane-whole, plane-add, plane-sub, plane-mul, plane-conj, addable, negatable, turnable, squarable, factors}
 use Rattle.fits.proofs.Sizes.{Ranged, plane-one, G-plane, divisor-plane, above-plane, drop-plane}
 
 -- ---- the divisor
@@ -100,27 +100,31 @@ for-currents s kind =
       times = record { e1 = factors (n .e1) c (lit≤ tt); e2 = factors (n .e2) c (lit≤ tt); e0 = factors (n .e0) c (lit≤ tt) };
     }
 
--- ---- the referred voltages
-pub record ForVoltage (D : ℤ) (I : Seq) (za zb zc : Ohms) : Type 0 where
-  pub times1 : Factors (numOf za) (I .s1)
-  pub times2 : Factors (numOf zb) (I .s2)
-  pub times0 : Factors (numOf zc) (I .s0)
-  pub whole : Addable (wholeN D)
-  pub drop1 : Addable (numOf za *N I .s1)
+-- ---- the referred voltages: W2, and W0 with what it is lifted by
+pub record ForVoltage (I : Seq) (zb zc : Ohms) (up : Num) : Type 0 where
   pub drop2 : Negatable (numOf zb *N I .s2)
-  pub drop0 : Negatable (numOf zc *N I .s0)
+  pub drop0 : Addable (numOf zc *N I .s0)
+  pub lifts : Addable up
 
-pub for-voltage : {D : ℤ} {I : Seq} {za zb zc : Ohms} → Small mostD D → EachSeq (Plane mostI) I → AtMost 4095 za → AtMost 4095 zb → AtMost 4095 zc → ForVoltage D I za zb zc
-for-voltage d p ua ub uc =
+pub for-voltage : {I : Seq} {zb zc : Ohms} {up : Num} → EachSeq (Plane mostI) I → AtMost 4095 zb → AtMost 4095 zc → Plane mostLift up → ForVoltage I zb zc up
+for-voltage p ub uc l =
     record {
-      times1 = factors (plane-num ua) (p .e1) (lit≤ tt);
-      times2 = factors (plane-num ub) (p .e2) (lit≤ tt);
-      times0 = factors (plane-num uc) (p .e0) (lit≤ tt);
-      whole = addable (plane-whole d) (lit≤ tt);
-      drop1 = addable (drop-plane ua (p .e1)) (lit≤ tt);
       drop2 = negatable (drop-plane ub (p .e2)) (lit≤ tt);
-      drop0 = negatable (drop-plane uc (p .e0)) (lit≤ tt);
+      drop0 = addable (drop-plane uc (p .e0)) (lit≤ tt);
+      lifts = addable l (lit≤ tt);
     }
+
+-- W1, of any board
+pub record ForFirst (D : ℤ) (za : Ohms) (i1 : Num) : Type 0 where
+  pub whole : Addable (wholeN D)
+  pub drop1 : Addable (numOf za *N i1)
+  pub turned : Negatable (wholeN D -N numOf za *N i1)
+
+pub for-first : {D : ℤ} {za : Ohms} {i1 : Num} → Small mostD D → AtMost 4095 za → Plane mostI i1 → ForFirst D za i1
+for-first d ua p =
+    let w = plane-whole d in
+    let v = drop-plane ua p in
+    record { whole = addable w (lit≤ tt); drop1 = addable v (lit≤ tt); turned = negatable (plane-sub w v) (lit≤ tt) }
 
 -- ---- what is shown: the sequences turned, then sums of them: u is the zero, v the positive and w the negative sequence, turned
 pub for-turns : {X : Seq} → EachSeq (Plane mostW) X → EachSeq Turnable X

@@ -2,28 +2,30 @@
 -- shown. All of them up to the referred voltages are of the form R + jX, and a bound holds for every kind. Assumes nothing.
 use mathlib.Core.Path.{_≡_, sym, _∙_, ap₂, subst}
 use mathlib.Core.Bool.{Bool, true, false, cond}
+use mathlib.Core.List.{[], _∷_}
 use Prim.Native.Nat.{ℕ, zero, suc, _+_, _-_, _*_, _^_, _≤_, _<_}
 use native.Mathlib.Nat.{le-trans, add-le-add, mul-le-mul, mul-le-mul-left}
 use native.Mathlib.Omega.{arith}
 use lib.Dec.{lit≤, ltb}
 use lib.IntN.{ℤ, pos, negsuc, natAbs, _-ℤ_}
 use Rattle.lemmas.specs.Small.{Small}
-use Rattle.lemmas.proofs.Solver.{_⊕_, _⊗_}
-use Rattle.lemmas.proofs.Solve.{solve}
+use Rattle.lemmas.proofs.Solver.{con, _⊕_, _⊖_, _⊗_, eqn}
+use Rattle.lemmas.proofs.Solve.{solve, solveBy}
 use Rattle.turn.specs.declared.Num.{Num}
-use Rattle.turn.specs.Number.{wholeN, oneN, powerN, _+N_, negN, _-N_, _*N_, turnN}
+use Rattle.turn.specs.Number.{wholeN, oneN, powerN, _+N_, _-N_, _*N_, turnN, conjN, squareN}
 use Rattle.turn.specs.Bounds.{Within}
 use Rattle.turn.proofs.Ring.{Nring}
 use Rattle.turn.proofs.Powers.{turn-add}
 use Rattle.turn.proofs.Within.{within-weak, within-add}
 use Rattle.paper.specs.declared.Ohms.{Ohms}
-use Rattle.paper.specs.Kind.{_+Ω_}
+use Rattle.paper.specs.Kind.{ohms, _+Ω_}
 use Rattle.paper.specs.declared.Seq.{Seq}
-use Rattle.paper.specs.Fault.{nilN, numOf, seq, G, Δ, shorts, shortOf, currents}
-use Rattle.paper.specs.Phase.{voltageOf, shows}
-use Rattle.follows.proofs.Row.{each-row, GOf, ΔOf, rowOf, DOf, IOf}
+use Rattle.paper.specs.Fault.{nilN, numOf, G, Δ, Short, noShort, shorts, unearthedShorts, shortOf, D, currents, liftOf}
+use Rattle.paper.specs.Phase.{onlyIf, voltageOf, shows}
+use Rattle.follows.proofs.Row.{each-row, GOf, ΔOf, rowOf, DOf, IOf, zfAt, zf-small}
+use Rattle.follows.proofs.Divisor.{D-square}
 use Rattle.follows.proofs.Square.{earthed, sq, dot, sqΔ, real-Δ, each-D}
-use Rattle.paper.specs.Bounds.{AtMost, Plane, EachSeq, mostD, mostI, mostW}
+use Rattle.paper.specs.Bounds.{AtMost, Plane, EachSeq, mostD, mostI, mostW, mostLift}
 use Rattle.fits.proofs.Plane.{plane-num, plane-whole, plane-weak, plane-add, plane-neg, plane-sub, plane-mul, plane-conj, plane-turn}
 
 -- ---- the bounds
@@ -56,6 +58,10 @@ pub record Ranged (z1 z2 z0 zf : Ohms) : Type 0 where
 -- the four clauses of a contract as one record
 pub ranged : {z1 z2 z0 zf : Ohms} → AtMost 4095 z1 × (AtMost 4095 z2 × (AtMost 4095 z0 × AtMost 1365 zf)) → Ranged z1 z2 z0 zf
 ranged (u1, (u2, (u0, uf))) = record { upto1 = u1; upto2 = u2; upto0 = u0; uptof = uf }
+
+-- the Zf that a fault has at a board without earth return is no larger
+pub ranged-at : {z1 z2 z0 zf : Ohms} (unearthed : Bool) (kind : ℕ) → Ranged z1 z2 z0 zf → Ranged z1 z2 z0 (zfAt unearthed kind zf)
+ranged-at {zf = zf} unearthed kind s = record { upto1 = s .upto1; upto2 = s .upto2; upto0 = s .upto0; uptof = zf-small 1365 zf unearthed kind (s .uptof) }
 
 -- ---- D, as the natural number that it is
 upto-add : {b d : ℕ} {y z : Ohms} → AtMost b y → AtMost d z → AtMost (b + d) (y +Ω z)
@@ -172,19 +178,52 @@ module _ {z1 z2 z0 zf : Ohms} (s : Ranged z1 z2 z0 zf) where
       let n = above-plane kind in
       record { e1 = plane-mul (n .e1) c; e2 = plane-mul (n .e2) c; e0 = plane-mul (n .e0) c }
 
--- ---- the referred voltages
--- an impedance times a current
+-- ---- an impedance times a current
 pub drop-plane : {z : Ohms} {n : Num} → AtMost 4095 z → Plane mostI n → Plane mostDrop (numOf z *N n)
 drop-plane u p = plane-mul (plane-num u) p
 
-pub voltageOf-plane : {D : ℤ} {I : Seq} {za zb zc : Ohms} → Small mostD D → EachSeq (Plane mostI) I → AtMost 4095 za → AtMost 4095 zb → AtMost 4095 zc
-    → EachSeq (Plane mostW) (voltageOf D I za zb zc)
+-- ---- what W0 is lifted by, where there is no earth return: the faulted board's W1
+abbrev firstOf : Ohms → Short → Num
+firstOf z1 s = wholeN (D s) -N numOf z1 *N currents s .s1
+
+-- a + b times c less a times c
+leaves : (a b c w : Num) → (a +N b +N nilN) *N c ≡ w → w -N a *N (oneN *N c) ≡ b *N c
+unfolding powerN
+leaves a b c w e =
+    solveBy Nring 4 (λ a b c w. eqn (con (pos 1)) w ((a ⊕ b ⊕ con (pos 0)) ⊗ c) ∷ []) (λ a b c w. w ⊖ a ⊗ (con (pos 1) ⊗ c)) (λ a b c w. b ⊗ c) tt a b c w (sym e, tt)
+
+module _ {z1 z2 z0 zf : Ohms} (s : Ranged z1 z2 z0 zf) where
+  -- of no current it is 1
+  first-none : Plane mostLift (firstOf z1 noShort)
+  unfolding D currents squareN powerN
+  first-none = plane-weak (lit≤ tt) (plane-sub (plane-whole {b = 1} (record { small = lit≤ tt })) (plane-mul (p1 s) (plane-mul plane-nil (plane-conj plane-one))))
+
+  -- of two phases with Zf = 0 it is Z2 times the conjugate of Z1 + Z2
+  first-two : Plane mostLift (firstOf z1 (rowOf z1 z2 z0 (ohms 0 0) 2))
+  unfolding currents shortOf shorts numOf
+  first-two =
+      let d = rowOf z1 z2 z0 (ohms 0 0) 2 .divisor in
+      subst (Plane mostLift) (sym (leaves (numOf z1) (numOf z2) (conjN d) (wholeN (DOf z1 z2 z0 (ohms 0 0) 2)) (D-square z1 z2 z0 (ohms 0 0) 2)))
+      (plane-mul (p2 s) (plane-conj (plane-add (plane-add (p1 s) (p2 s)) plane-nil)))
+
+  pub liftOf-plane : (unearthed : Bool) (kind : ℕ) → Plane mostLift (onlyIf unearthed (liftOf kind (firstOf z1 (shortOf (numOf z1) (numOf z2) (numOf z0) (numOf zf) unearthed kind))))
+  unfolding onlyIf liftOf shortOf shorts unearthedShorts numOf
+  liftOf-plane false kind = plane-weak (lit≤ tt) plane-nil
+  liftOf-plane true zero = plane-weak (lit≤ tt) plane-nil
+  liftOf-plane true (suc zero) = plane-neg first-none
+  liftOf-plane true (suc (suc zero)) = plane-weak (lit≤ tt) plane-nil
+  liftOf-plane true (suc (suc (suc zero))) = first-two
+  liftOf-plane true (suc (suc (suc (suc kind)))) = plane-weak (lit≤ tt) plane-nil
+
+-- ---- the referred voltages of a board
+pub voltageOf-plane : {D : ℤ} {I : Seq} {za zb zc : Ohms} {up : Num} → Small mostD D → EachSeq (Plane mostI) I → AtMost 4095 za → AtMost 4095 zb → AtMost 4095 zc → Plane mostLift up
+    → EachSeq (Plane mostW) (voltageOf D I za zb zc up)
 unfolding voltageOf
-voltageOf-plane d p ua ub uc =
+voltageOf-plane d p ua ub uc l =
     record {
       e1 = plane-sub (plane-whole d) (drop-plane ua (p .e1));
       e2 = plane-weak (lit≤ tt) (plane-neg (drop-plane ub (p .e2)));
-      e0 = plane-weak (lit≤ tt) (plane-neg (drop-plane uc (p .e0)));
+      e0 = plane-weak (lit≤ tt) (plane-add (plane-neg (drop-plane uc (p .e0))) l);
     }
 
 -- ---- what is shown

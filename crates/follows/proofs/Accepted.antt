@@ -1,7 +1,6 @@
 -- What acceptance gives, in names: of a network (1 to 11), and of a fault and the room for its answer (12 to 19). Assumes nothing.
 use mathlib.Core.Bool.{true, false, not, _&&_}
 use mathlib.Core.List.{List, [], _∷_, _++_, append-nil, append-assoc}
-use mathlib.Core.Logic.{_⊎_, inl, inr}
 use mathlib.Core.Option.{none}
 use mathlib.Core.Path.{_≡_, refl, ap}
 use Prim.Native.Nat.{ℕ, zero, suc, _+_, _*_, _≤_}
@@ -13,13 +12,12 @@ use Rattle.paper.specs.declared.Head.{Head}
 use Rattle.paper.specs.declared.Fault.{Fault}
 use Rattle.paper.specs.Bytes.{within}
 use Rattle.paper.specs.File.{markOf, HD, BD, FT, headOf, headSize, boardOf, boardSize, faultOf, records, recordsOf, decoded, boardsOf}
-use Rattle.paper.specs.Chain.{Boards, placeOf, unearthed}
+use Rattle.paper.specs.Chain.{Boards, placeOf}
 use Rattle.paper.specs.Rows.{test, first}
-use Rattle.paper.specs.Refusal.{theRecord, headRanges, headRows, boardTests, recordRefusal, inOrder, recordsRefusal, networkRefusal, phaseWrong, earthMissing, answerSize, faultRows, refusal}
+use Rattle.paper.specs.Refusal.{theRecord, headRanges, headRows, boardTests, recordRefusal, inOrder, recordsRefusal, networkRefusal, phaseWrong, answerSize, faultRows, refusal}
 use Rattle.lemmas.proofs.Bools.{both, neither, same-by}
 use Rattle.paper.specs.Bounds.{AtMost}
 use Rattle.follows.proofs.Impedance.{not-over}
-use Rattle.follows.proofs.Lists.{On, on-here, on-there}
 use Rattle.follows.proofs.Places.{place-most}
 use Rattle.follows.proofs.Rows.{Clear, clear, clear-at, then-none}
 use Rattle.follows.proofs.Sound.{Sound, sound-none, tested, sound-next}
@@ -101,7 +99,6 @@ pub record Question (net flt : List ℕ) (room : ℕ) : Type 0 where
   pub phase-to : faultOf flt .phase ≤ 2
   pub phase-three : faultOf flt .kind ≡ 0 → faultOf flt .phase ≡ 0
   pub zf-small : AtMost 1365 (faultOf flt .zf)
-  pub earthed : (faultOf flt .kind ≡ 1) ⊎ (faultOf flt .kind ≡ 3) → unearthed (boardsOf net) (placeOf (faultOf flt .label) (boardsOf net)) ≡ false
   pub room-enough : 13 + 24 * length (boardsOf net) ≤ room
 
 phase-right : (f : Fault) → phaseWrong f ≡ false → (f .phase ≤ 2) × (f .kind ≡ 0 → f .phase ≡ 0)
@@ -110,14 +107,6 @@ phase-right f h =
     let (a, b) = neither (ltb 2 (f .phase)) (eqb (f .kind) 0 && not (eqb (f .phase) 0)) h in
     (ltb-false 2 (f .phase) a, λ e. same-by (f .phase) 0 (rw (eq-eqb (f .kind) 0 e) at b))
 
-earth-there : (bs : Boards) (k : ℕ) (f : Fault) → earthMissing bs k f ≡ false → (f .kind ≡ 1) ⊎ (f .kind ≡ 3) → unearthed bs k ≡ false
-unfolding earthMissing
-earth-there bs k f h e = rw (on e) at h
-  where
-    on : (f .kind ≡ 1) ⊎ (f .kind ≡ 3) → On (f .kind) (1 ∷ 3 ∷ [])
-    on (inl e) = rw e (on-here 1 (3 ∷ []))
-    on (inr e) = rw e (on-there 3 1 (3 ∷ []) (on-here 3 []))
-
 pub accepted-fault : (net flt : List ℕ) (room : ℕ) → refusal net flt room ≡ none → Question net flt room
 unfolding refusal faultRows
 accepted-fault net flt room e =
@@ -125,7 +114,7 @@ accepted-fault net flt room e =
     let f : Fault = faultOf flt in
     let k : ℕ = placeOf (f .label) bs in
     let (e1, e2) = then-none (networkRefusal net) (first (faultRows bs flt room)) e in
-    let (c12, (c13, (c14, (c15, (c16, (c17, (c18, (c19, _)))))))) = clear (faultRows bs flt room) e2 in
+    let (c12, (c13, (c14, (c15, (c16, (c17, (c19, _))))))) = clear (faultRows bs flt room) e2 in
     let there = eqb-false k 0 c14 in
     let (p, p0) = phase-right f c16 in
     record {
@@ -138,6 +127,5 @@ accepted-fault net flt room e =
       phase-to = p;
       phase-three = p0;
       zf-small = not-over 1365 (f .zf) c17;
-      earthed = earth-there bs k f c18;
       room-enough = ltb-false room (answerSize (length bs)) c19;
     }

@@ -18,12 +18,12 @@ use Rattle.turn.proofs.Cancel.{cancel-complex}
 use Rattle.paper.specs.declared.Ohms.{Ohms}
 use Rattle.paper.specs.Kind.{_+Ω_, isZero}
 use Rattle.paper.specs.declared.Seq.{Seq}
-use Rattle.paper.specs.Fault.{nilN, numOf, G, Δ, shorts, shortOf, D, currents}
-use Rattle.paper.specs.Chain.{Z1, Z2, Z0}
-use Rattle.paper.specs.Phase.{Asked, theD}
+use Rattle.paper.specs.Fault.{nilN, numOf, G, Δ, Short, shorts, shortOf, D, currents}
+use Rattle.paper.specs.Chain.{unearthed, Z1, Z2, Z0}
+use Rattle.paper.specs.Phase.{Asked, theShort, theD, theI}
 use Rattle.paper.specs.Bounds.{Flat, EachSeq}
 use Rattle.follows.proofs.Flat.{flat-is, flat-complex, flat-num, flat-add, flat-neg, flat-mul, flat-square}
-use Rattle.follows.proofs.Row.{each-row, GOf, ΔOf, rowOf, DOf, IOf}
+use Rattle.follows.proofs.Row.{each-row, GOf, ΔOf, rowOf, DOf, IOf, kindAt, zfAt, by-row}
 use Rattle.follows.proofs.Square.{earthed, sq, sqΔ, each-D}
 
 -- ---- the divisors are of the form R + jX, and so is what stands above the line
@@ -153,19 +153,43 @@ currents-over z1 z2 z0 zf kind =
     let e = D-square z1 z2 z0 zf kind in
     record { over1 = over-one d w (n .s1) e; over2 = over-one d w (n .s2) e; over0 = over-one d w (n .s0) e }
 
--- ---- of a question
+-- ---- of a question, with an earth return or without
 module _ (q : Asked) where
   open Asked q using (boards, fault, k)
 
-  pub theD-natural : theD q ≡ pos (natAbs (theD q))
+  abbrev kind : ℕ
+  kind = kindAt (unearthed boards k) (fault .kind)
+
+  abbrev zf : Ohms
+  zf = zfAt (unearthed boards k) (fault .kind) (fault .zf)
+
+  pub theShort-is : theShort q ≡ rowOf (Z1 boards k) (Z2 boards k) (Z0 boards k) zf kind
+  unfolding theShort
+  theShort-is = by-row (Z1 boards k) (Z2 boards k) (Z0 boards k) (fault .zf) (unearthed boards k) (fault .kind)
+
+  pub theD-is : theD q ≡ DOf (Z1 boards k) (Z2 boards k) (Z0 boards k) zf kind
   unfolding theD
-  theD-natural = D-natural (Z1 boards k) (Z2 boards k) (Z0 boards k) (fault .zf) (fault .kind)
+  theD-is = ap D theShort-is
+
+  pub theI-is : theI q ≡ IOf (Z1 boards k) (Z2 boards k) (Z0 boards k) zf kind
+  unfolding theI
+  theI-is = ap currents theShort-is
+
+  -- "D is the square of its absolute value"
+  pub theD-square : theShort q .divisor *N conjN (theShort q .divisor) ≡ wholeN (theD q)
+  unfolding theD
+  theD-square = rw theShort-is (D-square (Z1 boards k) (Z2 boards k) (Z0 boards k) zf kind)
+
+  pub theD-natural : theD q ≡ pos (natAbs (theD q))
+  theD-natural = rw theD-is (D-natural (Z1 boards k) (Z2 boards k) (Z0 boards k) zf kind)
 
   module _ (h1 : isZero (Z1 boards k) ≡ false) (h2 : isZero (Z2 boards k) ≡ false) where
     pub theD-least : 1 ≤ natAbs (theD q)
-    unfolding theD
-    theD-least = D-least (Z1 boards k) (Z2 boards k) (Z0 boards k) (fault .zf) (fault .kind) h1 h2
+    theD-least = rw theD-is (D-least (Z1 boards k) (Z2 boards k) (Z0 boards k) zf kind h1 h2)
 
     pub theD-positive : (n : ℕ) × (theD q ≡ pos (suc n))
-    unfolding theD
-    theD-positive = D-positive (Z1 boards k) (Z2 boards k) (Z0 boards k) (fault .zf) (fault .kind) h1 h2
+    theD-positive = rw theD-is (D-positive (Z1 boards k) (Z2 boards k) (Z0 boards k) zf kind h1 h2)
+
+    -- "The divisor is never zero"
+    pub theShort-not-zero : theShort q .divisor ≡ nilN → ⊥
+    theShort-not-zero e = divisor-not-zero (Z1 boards k) (Z2 boards k) (Z0 boards k) zf kind h1 h2 (ap (λ (s : Short). s .divisor) (sym theShort-is) ∙ e)

@@ -7,14 +7,13 @@ use Prim.Native.Nat.{ℕ, suc}
 use lib.IntN.{pos}
 use Rattle.paper.specs.Kind.{isZero}
 use Rattle.paper.specs.File.{boardsOf, faultOf}
-use Rattle.paper.specs.Chain.{Boards, placeOf, Z1, Z2, Z0}
+use Rattle.paper.specs.Chain.{Boards, placeOf, Z1, Z2}
 use Rattle.paper.specs.Refusal.{refusal}
 use Rattle.paper.specs.Fault.{nilN}
-use Rattle.paper.specs.Phase.{asked, theD}
-use Rattle.follows.proofs.Row.{rowOf}
+use Rattle.paper.specs.Phase.{asked, theShort, theD}
 use Rattle.follows.proofs.Sound.{Z1-not-zero, Z2-not-zero}
 use Rattle.follows.proofs.Accepted.{Network, accepted-network, Question, accepted-fault}
-use Rattle.follows.proofs.Divisor.{divisor-not-zero, theD-positive}
+use Rattle.follows.proofs.Divisor.{theShort-not-zero, theD-positive}
 
 module _ (net flt : List ℕ) (room : ℕ) (accepted : refusal net flt room ≡ none) where
   abbrev bs : Boards
@@ -37,8 +36,9 @@ module _ (net flt : List ℕ) (room : ℕ) (accepted : refusal net flt room ≡ 
   z2-not-zero = Z2-not-zero bs (network .sound) k (question .k-from) (question .k-to)
 
   -- ---- "The divisor is never zero", and D is a positive whole number
-  pub never-zero : rowOf (Z1 bs k) (Z2 bs k) (Z0 bs k) (faultOf flt .zf) (faultOf flt .kind) .divisor ≡ nilN → ⊥
-  never-zero = divisor-not-zero (Z1 bs k) (Z2 bs k) (Z0 bs k) (faultOf flt .zf) (faultOf flt .kind) z1-not-zero z2-not-zero
+  pub never-zero : theShort (asked net flt) .divisor ≡ nilN → ⊥
+  unfolding asked
+  never-zero = theShort-not-zero (asked net flt) z1-not-zero z2-not-zero
 
   pub D-at-least-one : (n : ℕ) × (theD (asked net flt) ≡ pos (suc n))
   unfolding asked

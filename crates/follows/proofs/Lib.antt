@@ -5,16 +5,19 @@ pub mod Lists
 pub mod Paths
 -- the place of a label
 pub mod Places
--- the chain, record by record
+-- the chain and the part, record by record
 pub mod Chain
+pub mod Parts
 pub mod Before
 pub mod Next
 pub mod Shared
-pub mod Earth
+-- being in one part is being linked by records of kinds 2 and 3
+pub mod Joined
 -- the kind table, row by row
 pub mod KindTable
 -- what the tests of the refusal table give
 pub mod Rows
+pub mod Numbered
 pub mod Fit
 pub mod Sound
 pub mod Accepted

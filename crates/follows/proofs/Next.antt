@@ -1,6 +1,6 @@
 -- The next board from the boards before it: what the reader computes and judges with 11, and then keeps. Assumes nothing.
-use mathlib.Core.Bool.{true, false}
-use mathlib.Core.List.{[], _∷_, _++_}
+use mathlib.Core.Bool.{cond}
+use mathlib.Core.List.{_∷_, _++_}
 use mathlib.Core.Path.{_≡_, _∙_, ap, ap₂}
 use Prim.Native.Nat.{ℕ, suc, _+_, _-_, _≤_}
 use native.Mathlib.Omega.{arith}
@@ -8,10 +8,11 @@ use lib.ListN.{length, take, getD}
 use lib.Seq.{take-append-seam, getD-append-seam}
 use Rattle.paper.specs.declared.Board.{Board}
 use Rattle.paper.specs.Kind.{ohms, _+Ω_, Term, Zero, starts, goes-on, none, kindOf, term}
-use Rattle.paper.specs.Chain.{Boards, noBoard, board, placeOf, feederOf, chain, zeroOf, zeroChain, empty, unearthed, startsAt, Z1, Z2, Z0, turnOf}
+use Rattle.paper.specs.Chain.{Boards, noBoard, board, placeOf, feederOf, chain, zeroOf, partHead, no-earth, earth-at, earthOf, unearthed, Z1, Z2, Z0, turnOf}
 use Rattle.follows.proofs.Places.{place-most}
-use Rattle.follows.proofs.Chain.{chain-board, Z1-board, Z2-board, turn-board, ZeroIs, is-starts, is-goes-on, is-cut, is-blocked}
-use Rattle.follows.proofs.Before.{chain-before, zero-before, turn-before, Z1-before, Z2-before, Z0-before}
+use Rattle.follows.proofs.Chain.{chain-board, Z1-board, Z2-board, turn-board}
+use Rattle.follows.proofs.Parts.{ZeroIs, is-starts, is-tied, is-blocked}
+use Rattle.follows.proofs.Before.{chain-before, head-before, earth-before, turn-before, Z1-before, Z2-before, Z0-before}
 
 module _ (before : Boards) (b : Board) (rest : Boards) where
   pub board-next : board (before ++ (b ∷ rest)) (suc (length before)) ≡ b
@@ -44,21 +45,15 @@ module _ (before : Boards) (b : Board) (rest : Boards) where
   zero-of : {z : Zero} → kindOf (b .kind) .zero-seq ≡ z → zeroOf (before ++ (b ∷ rest)) (suc (length before)) ≡ z
   zero-of e = ap (λ c. kindOf (c .kind) .zero-seq) board-next ∙ e
 
-  still-zero : zeroChain (before ++ (b ∷ rest)) (feederOf (before ++ (b ∷ rest)) (suc (length before))) ≡ zeroChain before (placeOf (b .feeder) before)
-  still-zero = at-feeder zeroChain (zero-before before (b ∷ rest))
-
-  pub next-starts : {t : Term} → kindOf (b .kind) .zero-seq ≡ starts t → ZeroIs (before ++ (b ∷ rest)) (suc (length before)) (suc (length before) ∷ []) (term t b) (suc (length before))
+  pub next-starts : {t : Term} → kindOf (b .kind) .zero-seq ≡ starts t → ZeroIs (before ++ (b ∷ rest)) (suc (length before)) (suc (length before)) (earth-at 0) (term t b)
   next-starts e = rw board-next at (is-starts (before ++ (b ∷ rest)) (length before) (zero-of e))
 
-  pub next-goes-on : {t : Term} → kindOf (b .kind) .zero-seq ≡ goes-on t → unearthed before (placeOf (b .feeder) before) ≡ false →
-      ZeroIs (before ++ (b ∷ rest)) (suc (length before)) (suc (length before) ∷ zeroChain before (placeOf (b .feeder) before))
-      (term t b +Ω Z0 before (placeOf (b .feeder) before)) (startsAt before (placeOf (b .feeder) before))
-  next-goes-on e h =
-      rw (board-next, still-zero, at-feeder Z0 (Z0-before before (b ∷ rest))) at
-      (is-goes-on (before ++ (b ∷ rest)) (length before) (zero-of e) (ap empty still-zero ∙ h))
+  pub next-tied : {t : Term} → kindOf (b .kind) .zero-seq ≡ goes-on t → 1 ≤ placeOf (b .feeder) before →
+      ZeroIs (before ++ (b ∷ rest)) (suc (length before)) (partHead before (placeOf (b .feeder) before)) (earthOf before (placeOf (b .feeder) before))
+      (cond (unearthed before (placeOf (b .feeder) before)) (ohms 0 0) (term t b +Ω Z0 before (placeOf (b .feeder) before)))
+  next-tied e l =
+      rw (board-next, at-feeder partHead (head-before before (b ∷ rest)), at-feeder earthOf (earth-before before (b ∷ rest)), at-feeder Z0 (Z0-before before (b ∷ rest))) at
+      (is-tied (before ++ (b ∷ rest)) (length before) (zero-of e) (omega (arith, feeder-next)))
 
-  pub next-cut : {t : Term} → kindOf (b .kind) .zero-seq ≡ goes-on t → unearthed before (placeOf (b .feeder) before) ≡ true → ZeroIs (before ++ (b ∷ rest)) (suc (length before)) [] (ohms 0 0) 0
-  next-cut e h = is-cut (before ++ (b ∷ rest)) (length before) (zero-of e) (ap empty still-zero ∙ h)
-
-  pub next-blocked : kindOf (b .kind) .zero-seq ≡ none → ZeroIs (before ++ (b ∷ rest)) (suc (length before)) [] (ohms 0 0) 0
+  pub next-blocked : kindOf (b .kind) .zero-seq ≡ none → ZeroIs (before ++ (b ∷ rest)) (suc (length before)) (suc (length before)) no-earth (ohms 0 0)
   next-blocked e = is-blocked (before ++ (b ∷ rest)) (length before) (zero-of e)

@@ -1,13 +1,20 @@
--- The fault table over impedances: what holds of each row holds of the row of every kind. Assumes nothing.
-use mathlib.Core.Path.{_≡_}
+-- The fault table over impedances: what holds of each row holds of the row of every kind; and the table of a board without earth return has no row that this one has not, of another kind or Zf.
+-- Assumes nothing.
+use mathlib.Core.Bool.{Bool, true, false, cond, _&&_}
+use mathlib.Core.List.{[], _∷_}
+use mathlib.Core.Path.{_≡_, refl}
 use Prim.Native.Nat.{ℕ, zero, suc, _≤_}
+use native.Mathlib.Omega.{arith}
+use lib.Dec.{eqb}
 use lib.IntN.{ℤ}
-use lib.ListN.{List·getD-eq-default}
+use lib.ListN.{getD, List·getD-eq-default}
 use Rattle.turn.specs.declared.Num.{Num}
 use Rattle.turn.specs.Number.{oneN, _+N_, negN}
 use Rattle.paper.specs.declared.Ohms.{Ohms}
 use Rattle.paper.specs.declared.Seq.{Seq}
-use Rattle.paper.specs.Fault.{nilN, numOf, seq, Short, G, Δ, shorts, shortOf, D, currents}
+use Rattle.paper.specs.Kind.{ohms}
+use Rattle.paper.specs.Bounds.{AtMost}
+use Rattle.paper.specs.Fault.{nilN, numOf, seq, Short, noShort, G, Δ, shorts, unearthedShorts, shortOf, D, currents}
 
 -- P speaks of a divisor and of what stands above the line
 module _ (Z1 Z2 Z0 Zf : Num) (P : Num → Seq → Type 0) where
@@ -17,7 +24,7 @@ module _ (Z1 Z2 Z0 Zf : Num) (P : Num → Seq → Type 0) where
       → P (Δ Z1 Z2 Z0 Zf) (seq (Z2 +N G Z1 Z2 Z0 Zf) (negN (G Z1 Z2 Z0 Zf)) (negN Z2))
       → P oneN (seq nilN nilN nilN)
       → (kind : ℕ)
-      → P (shortOf Z1 Z2 Z0 Zf kind .divisor) (shortOf Z1 Z2 Z0 Zf kind .above)
+      → P (shortOf Z1 Z2 Z0 Zf false kind .divisor) (shortOf Z1 Z2 Z0 Zf false kind .above)
   unfolding shortOf shorts
   each-row p0 p1 p2 p3 p4 zero = p0
   each-row p0 p1 p2 p3 p4 (suc zero) = p1
@@ -26,7 +33,7 @@ module _ (Z1 Z2 Z0 Zf : Num) (P : Num → Seq → Type 0) where
   each-row p0 p1 p2 p3 p4 (suc (suc (suc (suc k)))) = p4
 
 -- a number that is no kind has the default row
-pub no-row : (Z1 Z2 Z0 Zf : Num) (kind : ℕ) → 4 ≤ kind → shortOf Z1 Z2 Z0 Zf kind ≡ record { divisor = oneN; above = seq nilN nilN nilN }
+pub no-row : (Z1 Z2 Z0 Zf : Num) (kind : ℕ) → 4 ≤ kind → shortOf Z1 Z2 Z0 Zf false kind ≡ noShort
 unfolding shortOf shorts
 no-row Z1 Z2 Z0 Zf kind h = List·getD-eq-default (shorts Z1 Z2 Z0 Zf) _ h
 
@@ -39,10 +46,35 @@ module _ (z1 z2 z0 zf : Ohms) where
   ΔOf = Δ (numOf z1) (numOf z2) (numOf z0) (numOf zf)
 
   abbrev pub rowOf : ℕ → Short
-  rowOf kind = shortOf (numOf z1) (numOf z2) (numOf z0) (numOf zf) kind
+  rowOf kind = shortOf (numOf z1) (numOf z2) (numOf z0) (numOf zf) false kind
 
   abbrev pub DOf : ℕ → ℤ
-  DOf kind = D (numOf z1) (numOf z2) (numOf z0) (numOf zf) kind
+  DOf kind = D (rowOf kind)
 
   abbrev pub IOf : ℕ → Seq
-  IOf kind = currents (numOf z1) (numOf z2) (numOf z0) (numOf zf) kind
+  IOf kind = currents (rowOf kind)
+
+-- ---- at a board without earth return
+-- the kind and the Zf that a fault has there: of kind 1 the row of no kind, of kind 3 that of kind 2 with Zf = 0
+unfoldable pub kindAt : Bool → ℕ → ℕ
+kindAt unearthed kind = cond unearthed (getD (0 ∷ 4 ∷ 2 ∷ 2 ∷ []) kind kind) kind
+
+unfoldable pub zfAt : Bool → ℕ → Ohms → Ohms
+zfAt unearthed kind zf = cond (unearthed && eqb kind 3) (ohms 0 0) zf
+
+pub by-row : (z1 z2 z0 zf : Ohms) (unearthed : Bool) (kind : ℕ) → shortOf (numOf z1) (numOf z2) (numOf z0) (numOf zf) unearthed kind ≡ rowOf z1 z2 z0 (zfAt unearthed kind zf) (kindAt unearthed kind)
+unfolding shortOf shorts unearthedShorts kindAt zfAt numOf
+by-row z1 z2 z0 zf false kind = refl
+by-row z1 z2 z0 zf true zero = refl
+by-row z1 z2 z0 zf true (suc zero) = refl
+by-row z1 z2 z0 zf true (suc (suc zero)) = refl
+by-row z1 z2 z0 zf true (suc (suc (suc zero))) = refl
+by-row z1 z2 z0 zf true (suc (suc (suc (suc kind)))) = refl
+
+pub zf-small : (most : ℕ) (zf : Ohms) (unearthed : Bool) (kind : ℕ) → AtMost most zf → AtMost most (zfAt unearthed kind zf)
+unfolding zfAt
+zf-small most zf unearthed kind h = go (unearthed && eqb kind 3)
+  where
+    go : (c : Bool) → AtMost most (cond c (ohms 0 0) zf)
+    go true = record { r-most = omega arith; x-most = omega arith }
+    go false = h

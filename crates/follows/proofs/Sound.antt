@@ -1,17 +1,17 @@
 -- Sound boards: what 6 to 11 give of every board, in names. They stay sound as boards are read behind them. Assumes nothing.
-use mathlib.Core.Bool.{Bool, true, false, _||_}
+use mathlib.Core.Bool.{Bool, true, false, not, _&&_, _||_}
 use mathlib.Core.List.{[], _∷_, _++_}
-use mathlib.Core.Path.{_≡_, refl, _∙_}
+use mathlib.Core.Path.{_≡_, refl, sym, _∙_, ap, subst}
 use Prim.Native.Nat.{ℕ, zero, suc, _*_, _≤_, _<_}
 use native.Mathlib.Omega.{arith}
-use lib.Dec.{leb}
+use lib.Dec.{leb, lit≤}
 use lib.ListN.{length, length-append}
 use borrow.Author.Tests.{leb-true, leb-false, eqb-false, not-false}
 use Rattle.paper.specs.declared.Board.{Board}
 use Rattle.paper.specs.Bytes.{sameBytes}
 use Rattle.paper.specs.Label.{spaces, formed, sameLabel}
-use Rattle.paper.specs.Kind.{isZero, partOver}
-use Rattle.paper.specs.Chain.{Boards, board, placeOf, feederOf, chain, term1, term2, Z1, Z2, Z0, turnOf}
+use Rattle.paper.specs.Kind.{Term, Zero, starts, goes-on, none, kinds, kindOf, isZero, partOver, isStart}
+use Rattle.paper.specs.Chain.{Boards, board, placeOf, feederOf, chain, zeroOf, partChain, partHead, unearthed, sumΩ, term1, term2, term0, Z1, Z2, Z0, turnOf}
 use Rattle.paper.specs.Refusal.{feederWrong, sumWrong, boardTests}
 use Rattle.lemmas.proofs.Bools.{neither, same-by}
 use Rattle.paper.specs.Bounds.{AtMost}
@@ -20,7 +20,8 @@ use Rattle.follows.proofs.Lists.{On, on-here, on-there, sum-not-zero}
 use Rattle.follows.proofs.Places.{same-label, look-here, place-first, place-stays, place-behind}
 use Rattle.follows.proofs.Chain.{feeder-earlier, along, chain-board, turn-none, turn-board}
 use Rattle.follows.proofs.Next.{board-next, feeder-next}
-use Rattle.follows.proofs.Before.{board-before, feeder-before, Z1-before, Z2-before, Z0-before}
+use Rattle.follows.proofs.Parts.{start-earthed, sum-earthed, sum-unearthed}
+use Rattle.follows.proofs.Before.{board-before, feeder-before, start-before, part-sum-before, Z1-before, Z2-before}
 use Rattle.follows.proofs.Rows.{Clear}
 use Rattle.follows.proofs.Fit.{Fit, fit}
 
@@ -37,7 +38,8 @@ pub record SoundAt (bs : Boards) (r : ℕ) : Type 0 where
   pub earlier : feederOf bs r < r
   pub Z1-small : AtMost 4095 (Z1 bs r)
   pub Z2-small : AtMost 4095 (Z2 bs r)
-  pub Z0-small : AtMost 4095 (Z0 bs r)
+  -- the sum from the head of its part on, where zero sequence starts there
+  pub part-small : isStart (zeroOf bs (partHead bs r)) ≡ true → AtMost 4095 (sumΩ (term0 bs) (partChain bs r))
 
 abbrev pub Sound : Boards → Type 0
 Sound bs = (r : ℕ) → 1 ≤ r → r ≤ length bs → SoundAt bs r
@@ -57,7 +59,7 @@ sound-stays before rest r h k s =
       earlier = rw f (s .earlier);
       Z1-small = rw (Z1-before before rest r k) (s .Z1-small);
       Z2-small = rw (Z2-before before rest r k) (s .Z2-small);
-      Z0-small = rw (Z0-before before rest r k) (s .Z0-small);
+      part-small = rw (start-before before rest r h k, part-sum-before before rest r k) (s .part-small);
     }
   where
     b : board (before ++ rest) r ≡ board before r
@@ -95,7 +97,7 @@ sound-new before b t =
     let bs : Boards = before ++ (b ∷ []) in
     let r : ℕ = suc (length before) in
     let e : feederOf bs r ≤ length before = feeder-earlier bs (length before) in
-    let (s1, s-Z0) = neither (partOver 4095 (Z1 bs r) || partOver 4095 (Z2 bs r)) (partOver 4095 (Z0 bs r)) (t .sums) in
+    let (s1, s-part) = neither (partOver 4095 (Z1 bs r) || partOver 4095 (Z2 bs r)) (isStart (zeroOf bs (partHead bs r)) && partOver 4095 (sumΩ (term0 bs) (partChain bs r))) (t .sums) in
     let (s-Z1, s-Z2) = neither (partOver 4095 (Z1 bs r)) (partOver 4095 (Z2 bs r)) s1 in
     record {
       own = rw (board-next before b []) (t .own);
@@ -106,8 +108,33 @@ sound-new before b t =
       earlier = omega arith;
       Z1-small = not-over 4095 (Z1 bs r) s-Z1;
       Z2-small = not-over 4095 (Z2 bs r) s-Z2;
-      Z0-small = not-over 4095 (Z0 bs r) s-Z0;
+      part-small = λ e. not-over 4095 (sumΩ (term0 bs) (partChain bs r)) (rw e at s-part);
     }
+
+-- 11 by the sums themselves
+pub sum-wrong-is : (bs : Boards) (q : ℕ) → sumWrong bs (suc q) ≡ (partOver 4095 (Z1 bs (suc q)) || partOver 4095 (Z2 bs (suc q)) || partOver 4095 (Z0 bs (suc q)))
+unfolding sumWrong partOver
+sum-wrong-is bs q = ap (λ c. partOver 4095 (Z1 bs (suc q)) || partOver 4095 (Z2 bs (suc q)) || c) (ap (λ c. c && partOver 4095 (sumΩ (term0 bs) (partChain bs (suc q)))) (start-earthed bs q) ∙ go (unearthed bs (suc q)) refl)
+  where
+    go : (u : Bool) → unearthed bs (suc q) ≡ u → (not u && partOver 4095 (sumΩ (term0 bs) (partChain bs (suc q)))) ≡ partOver 4095 (Z0 bs (suc q))
+    go true u = ap (partOver 4095) (sym (sum-unearthed bs (suc q) u))
+    go false u = ap (partOver 4095) (sym (sum-earthed bs (suc q) u))
+
+-- ---- what goes on is no source, so it has a feeder
+pub going-on : (before : Boards) (b : Board) → Fit (suc (length before)) b → feederWrong before b ≡ false → {t : Term} → kindOf (b .kind) .zero-seq ≡ goes-on t → 1 ≤ placeOf (b .feeder) before
+unfolding kindOf kinds
+going-on [] b f w e = absurd (no-source (b .kind) (f .kind-first refl) e)
+  where
+    IsOn : Zero → Type 0
+    IsOn (starts t) = ⊥
+    IsOn (goes-on t) = Unit {0}
+    IsOn none = ⊥
+
+    no-source : (k : ℕ) → k ≤ 1 → {t : Term} → kindOf k .zero-seq ≡ goes-on t → ⊥
+    no-source zero h e = subst IsOn (sym e) tt
+    no-source (suc zero) h e = subst IsOn (sym e) tt
+    no-source (suc (suc k)) h e = omega arith
+going-on (x ∷ xs) b f w e = others-fed (x ∷ xs) b w (omega arith)
 
 pub sound-next : (before : Boards) (b : Board) → Sound before → Tested before b → Sound (before ++ (b ∷ []))
 sound-next before b s t r h k = go (leb r (length before)) refl
@@ -124,6 +151,15 @@ module _ (bs : Boards) (s : Sound bs) where
   -- no earlier board has r's label
   pub labels-differ : (r i : ℕ) → r ≤ length bs → 1 ≤ i → i < r → sameLabel (board bs r .label) (board bs i .label) ≡ false
   labels-differ r i k h l = let e = s r (omega arith) k .place in place-first (board bs r .label) bs i h (omega arith)
+
+  -- an existing Z0 is the sum from the head on, so no part of it is over 4,095 either
+  pub Z0-small : (r : ℕ) → 1 ≤ r → r ≤ length bs → AtMost 4095 (Z0 bs r)
+  Z0-small zero h k = absurd (omega arith)
+  Z0-small (suc q) h k = go (unearthed bs (suc q)) refl
+    where
+      go : (u : Bool) → unearthed bs (suc q) ≡ u → AtMost 4095 (Z0 bs (suc q))
+      go true u = rw (sum-unearthed bs (suc q) u) (record { r-most = lit≤ tt; x-most = lit≤ tt })
+      go false u = rw (sum-earthed bs (suc q) u) (s (suc q) h k .part-small (start-earthed bs q ∙ ap not u))
 
   -- the source is on every chain
   pub source-on : (r : ℕ) → 1 ≤ r → r ≤ length bs → On 1 (chain bs r)

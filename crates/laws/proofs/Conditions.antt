@@ -1,5 +1,6 @@
--- The fault table and the conditions of each fault as the solver's expressions, so that what follows from them is computed. The checker compares them with specs/: their values are the table and
+-- The fault tables and the conditions of each fault as the solver's expressions, so that what follows from them is computed. The checker compares them with specs/: their values are the tables and
 -- the conditions. Assumes nothing.
+use mathlib.Core.Bool.{Bool, true, false}
 use mathlib.Core.List.{List, [], _∷_}
 use Prim.Native.Nat.{ℕ, zero, suc, _*_, _≤_}
 use native.Mathlib.Omega.{arith}
@@ -44,25 +45,29 @@ pub record SeqE : Type 0 where
 abbrev pub seqE : E Num → E Num → E Num → SeqE
 seqE a b c = record { e1 = a; e2 = b; e0 = c }
 
--- ---- the table
+-- ---- the table and, for `true`, that of a board without earth return, with the lift by the faulted board's W1
 abbrev pub GE : E Num
 GE = Z0E ⊕ (ZfE ⊕ ZfE ⊕ ZfE)
 
-abbrev pub divisorE : ℕ → E Num
-divisorE zero = Z1E ⊕ ZfE
-divisorE (suc zero) = Z1E ⊕ Z2E ⊕ GE
-divisorE (suc (suc zero)) = Z1E ⊕ Z2E ⊕ ZfE
-divisorE (suc (suc (suc n))) = Z1E ⊗ Z2E ⊕ Z1E ⊗ GE ⊕ Z2E ⊗ GE
+pub record RowE : Type 0 where
+  pub divisor : E Num
+  pub above : SeqE
+  pub lift : E Num → E Num
 
-abbrev pub aboveE : ℕ → SeqE
-aboveE zero = seqE oneE nilE nilE
-aboveE (suc zero) = seqE oneE oneE oneE
-aboveE (suc (suc zero)) = seqE oneE (⊝ oneE) nilE
-aboveE (suc (suc (suc n))) = seqE (Z2E ⊕ GE) (⊝ GE) (⊝ Z2E)
+abbrev rowWith : E Num → SeqE → (E Num → E Num) → RowE
+rowWith d n up = record { divisor = d; above = n; lift = up }
 
--- the faulted board's voltage, where the source's is u and the fault's current i
-abbrev pub voltageE : E Num → SeqE → SeqE
-voltageE u i = seqE (u ⊖ Z1E ⊗ i .e1) (⊝ (Z2E ⊗ i .e2)) (⊝ (Z0E ⊗ i .e0))
+abbrev pub rowE : ℕ → Bool → RowE
+rowE zero u = rowWith (Z1E ⊕ ZfE) (seqE oneE nilE nilE) (λ w. nilE)
+rowE (suc zero) false = rowWith (Z1E ⊕ Z2E ⊕ GE) (seqE oneE oneE oneE) (λ w. nilE)
+rowE (suc zero) true = rowWith oneE (seqE nilE nilE nilE) (λ w. ⊝ w)
+rowE (suc (suc zero)) u = rowWith (Z1E ⊕ Z2E ⊕ ZfE) (seqE oneE (⊝ oneE) nilE) (λ w. nilE)
+rowE (suc (suc (suc n))) false = rowWith (Z1E ⊗ Z2E ⊕ Z1E ⊗ GE ⊕ Z2E ⊗ GE) (seqE (Z2E ⊕ GE) (⊝ GE) (⊝ Z2E)) (λ w. nilE)
+rowE (suc (suc (suc n))) true = rowWith (Z1E ⊕ Z2E ⊕ nilE) (seqE oneE (⊝ oneE) nilE) (λ w. w)
+
+-- the faulted board's voltage, where the source's is u, the fault's current i, and W0 is lifted by up
+abbrev pub voltageE : E Num → SeqE → E Num → SeqE
+voltageE u i up = seqE (u ⊖ Z1E ⊗ i .e1) (⊝ (Z2E ⊗ i .e2)) (⊝ (Z0E ⊗ i .e0) ⊕ up)
 
 -- what phase p + n shows
 abbrev showsE : SeqE → ℕ → E Num

@@ -1,97 +1,91 @@
--- Demand 3 holds. Assumes nothing.
-use mathlib.Core.List.{List}
-use mathlib.Core.Logic.{inl, inr}
-use mathlib.Core.Option.{none}
-use mathlib.Core.Path.{_≡_, refl, sym, _∙_, subst}
-use Prim.Native.Nat.{ℕ, zero, suc, _≤_}
-use native.Mathlib.Omega.{arith}
+-- Demand 3 holds, of every accepted network and fault: the laws leave the fault's current and the lift open (`Formed`), and the connection forces both (`Forced`). Assumes nothing.
+use mathlib.Core.Bool.{Bool, true}
+use mathlib.Core.Path.{_≡_, refl, sym, _∙_, ap, subst}
+use Prim.Native.Nat.{ℕ, suc}
 use lib.IntN.{ℤ, pos}
-use lib.ListN.{length}
-use Rattle.lemmas.proofs.Bools.{not-both}
+use borrow.Author.Tests.{eq-eqb}
 use Rattle.lemmas.proofs.Ring.{zer-mul}
 use Rattle.turn.specs.declared.Num.{Num}
+use Rattle.turn.specs.Number.{_*N_, conjN}
 use Rattle.turn.proofs.Ring.{Nring}
 use Rattle.paper.specs.declared.Seq.{Seq}
-use Rattle.paper.specs.File.{faultOf}
-use Rattle.paper.specs.Chain.{chain, zeroChain, sumΩ, term1, term2, term0, Z1, Z2, Z0, shared1, shared2, shared0}
-use Rattle.paper.specs.Fault.{nilN, shorts, shortOf, currents}
-use Rattle.paper.specs.Phase.{Asked, asked, theD, theI, voltageOf, voltage, current}
-use Rattle.paper.specs.Refusal.{refusal}
+use Rattle.paper.specs.Chain.{chain, partHead, joined, unearthed, zeroChain, sumΩ, term1, term2, term0, Z1, Z2, Z0, shared1, shared2, shared0}
+use Rattle.paper.specs.Fault.{nilN, Short, currents}
+use Rattle.paper.specs.Phase.{Asked, asked, theShort, theD, theI, lift, voltageOf, voltage, current, onlyIf}
 use Rattle.follows.proofs.Lists.{common-all}
-use Rattle.follows.proofs.Given.{question, z2-not-zero, D-at-least-one}
-use Rattle.laws.specs.Values.{Values, answers, SameSeq}
+use Rattle.laws.specs.Values.{Values, answers}
 use Rattle.laws.specs.Connection.{Connected}
 use Rattle.laws.specs.Demand.{Only, Demand}
-use Rattle.laws.proofs.Form.{carriedBy, leftBy, Formed}
-use Rattle.laws.proofs.Formed.{formed}
-use Rattle.laws.proofs.Lawful.{lawful, quiet-form}
+use Rattle.laws.proofs.Fair.{Fair, fair}
+use Rattle.laws.proofs.Form.{carriedBy, leftBy, Open, Formed}
+use Rattle.laws.proofs.ZeroVoltages.{liftedTo}
+use Rattle.laws.proofs.Formed.{formed, lawful, quiet-form}
 use Rattle.laws.proofs.Alike.{alike}
+use Rattle.laws.proofs.Lift.{rowAt, no-earth-row, unlifted, unfreed, unfreed-lifts}
 use Rattle.laws.proofs.Kept.{keeps}
-use Rattle.laws.proofs.Forced.{forces}
-use Rattle.laws.proofs.Zero.{accepted-by}
+use Rattle.laws.proofs.Forced.{answered, SameFault, forces}
 
--- ---- the faulted board shares all of its impedance with itself
-module _ (q : Asked) (E : ℤ) (F : Seq) where
-  open Asked q using (boards, k)
+module _ (q : Asked) where
+  open Asked q using (boards, fault, k)
 
-  -- so what the fault leaves of its voltage
-  at-fault : leftBy q E F k ≡ voltageOf E F (Z1 boards k) (Z2 boards k) (Z0 boards k)
-  unfolding leftBy shared1 shared2 shared0 Z1 Z2 Z0
-  at-fault =
+  -- ---- the faulted board, of a current F and a lift over E: it shares all of its impedance with itself, and is joined to itself
+  unfoldable pub atFault : ℤ → Seq → Num → Seq
+  atFault E F up = voltageOf E F (Z1 boards k) (Z2 boards k) (Z0 boards k) up
+
+  pub at-fault : (E : ℤ) (F : Seq) (up : Num) → leftBy q E F up k ≡ atFault E F up
+  unfolding atFault leftBy shared1 shared2 shared0 Z1 Z2 Z0 joined onlyIf
+  at-fault E F up =
       let c = common-all (chain boards k) (chain boards k) (λ i h. h) in
       let z = common-all (zeroChain boards k) (zeroChain boards k) (λ i h. h) in
-      λ i. voltageOf E F (sumΩ (term1 boards) (c i)) (sumΩ (term2 boards) (c i)) (sumΩ (term0 boards) (z i))
+      let e = eq-eqb (partHead boards k) (partHead boards k) refl in
+      λ i. voltageOf E F (sumΩ (term1 boards) (c i)) (sumΩ (term2 boards) (c i)) (sumΩ (term0 boards) (z i)) (onlyIf (e i) up)
 
--- ---- values of the answers' form, whose fault current meets the connection and is the only one that does
-pub only : (q : Asked) (D : ℤ) (w : Values) → 1 ≤ q .k → q .k ≤ length (q .boards) → (n : ℕ) × (D ≡ pos (suc n)) → Formed q D w
-    → Connected (q .fault) (voltageOf D (w .F) (Z1 (q .boards) (q .k)) (Z2 (q .boards) (q .k)) (Z0 (q .boards) (q .k))) (w .F)
-    → ((E : ℤ) (F : Seq) → Connected (q .fault) (voltageOf E F (Z1 (q .boards) (q .k)) (Z2 (q .boards) (q .k)) (Z0 (q .boards) (q .k))) F → SameSeq E F D (w .F))
-    → Only q D w
-only q D w k1 kn p form meets one =
-    record {
-      positive = p;
-      lawful = lawful q k1 kn D w form (subst (λ x. Connected (q .fault) x (w .F)) (sym (form .form-W (q .k) k1 kn ∙ at-fault q D (w .F))) meets);
-      quiet = quiet-form q k1 kn D w form;
-      alone = λ E v laws quiet.
-          let f = formed q k1 kn E v laws quiet in
-          alike q f form (one E (v .F) (subst (λ x. Connected (q .fault) x (v .F)) (f .form-W (q .k) k1 kn ∙ at-fault q E (v .F)) (laws .connected)));
-    }
+  -- ---- the connection forces them to be the answers'
+  pub answers-forced : Fair q → (E : ℤ) (F : Seq) (up : Num) → Open q F up → Connected fault (atFault E F up) F → SameFault E F up (theD q) (theI q) (lift q)
+  unfolding atFault Connected theShort theD theI lift
+  answers-forced a E F up free h =
+      let u = unearthed boards k in
+      forces fault (Z1 boards k) (Z2 boards k) (Z0 boards k) u (fault .kind) E F up
+      (answered fault (Z1 boards k) (Z2 boards k) (Z0 boards k) (a .z2-some) E F up u (fault .kind) (free .no-out) (λ no. free .no-lift (unfreed-lifts q no)) h)
 
--- ---- the answers
-module _ (net flt : List ℕ) (room : ℕ) (accepted : refusal net flt room ≡ none) where
-  abbrev q : Asked
-  q = asked net flt
+  -- ---- values of the answers' form that meet the connection, and that it forces
+  pub only : Fair q → (D : ℤ) (w : Values) (up : Num) → (n : ℕ) × (D ≡ pos (suc n)) → Formed q D w up → Connected fault (atFault D (w .F) up) (w .F)
+      → ((E : ℤ) (F : Seq) (x : Num) → Open q F x → Connected fault (atFault E F x) F → SameFault E F x D (w .F) up)
+      → Only q D w
+  only a D w up p form meets one =
+      record {
+        positive = p;
+        lawful = lawful q a D w up form (subst (λ x. Connected fault x (w .F)) (sym (form .form-W k (a .k-from) (a .k-to) ∙ at-fault D (w .F) up)) meets);
+        quiet = quiet-form q a D w up form;
+        alone = λ E v laws quiet.
+            let x = liftedTo q a E v in
+            let f = formed q a E v laws quiet in
+            let r = one E (v .F) x (f .form-open) (subst (λ y. Connected fault y (v .F)) (f .form-W k (a .k-from) (a .k-to) ∙ at-fault E (v .F) x) (laws .connected)) in
+            alike q f form (r .same-currents) (r .same-lift);
+      }
 
-  -- no current to earth but in kinds 1 and 3, which want an earth return
-  no-earth : (Z1 Z2 Z0 Zf : Num) (kind : ℕ) → kind ≤ 3 → (kind ≡ 1 → ⊥) → (kind ≡ 3 → ⊥) → currents Z1 Z2 Z0 Zf kind .s0 ≡ nilN
-  unfolding currents shortOf shorts
-  no-earth Z1 Z2 Z0 Zf zero l a b = zer-mul Nring _
-  no-earth Z1 Z2 Z0 Zf (suc zero) l a b = absurd (a refl)
-  no-earth Z1 Z2 Z0 Zf (suc (suc zero)) l a b = zer-mul Nring _
-  no-earth Z1 Z2 Z0 Zf (suc (suc (suc zero))) l a b = absurd (b refl)
-  no-earth Z1 Z2 Z0 Zf (suc (suc (suc (suc n)))) l a b = let no : ⊥ = omega arith in absurd no
-
-  pub answers-formed : Formed q (theD q) (answers q)
-  unfolding answers asked voltage leftBy current carriedBy theI
+  -- ---- the answers
+  pub answers-formed : Formed q (theD q) (answers q) (lift q)
+  unfolding answers voltage leftBy current carriedBy theI theShort currents lift
   answers-formed =
-      let a = question net flt room accepted in
       record {
         form-W = λ j h l. refl;
         form-I = λ r h l. refl;
-        form-0 = λ u. no-earth _ _ _ _ (faultOf flt .kind) (a .kind-to) (λ e. not-both u (a .earthed (inl e))) (λ e. not-both u (a .earthed (inr e)));
+        form-open = record { no-out = no-out; no-lift = λ h. unlifted (unearthed boards k) (fault .kind) _ (unfreed q h) };
       }
+    where
+      no-out : unearthed boards k ≡ true → theI q .s0 ≡ nilN
+      no-out u =
+          let row : Bool → Short = λ u. rowAt fault (Z1 boards k) (Z2 boards k) (Z0 boards k) u (fault .kind) in
+          ap (λ n. n *N conjN (theShort q .divisor)) (ap (λ u. row u .above .s0) u ∙ no-earth-row fault (Z1 boards k) (Z2 boards k) (Z0 boards k) (fault .kind)) ∙ zer-mul Nring (conjN (theShort q .divisor))
 
-  pub answers-meet : Connected (q .fault) (voltageOf (theD q) (theI q) (Z1 (q .boards) (q .k)) (Z2 (q .boards) (q .k)) (Z0 (q .boards) (q .k))) (theI q)
-  unfolding asked theD theI
-  answers-meet = keeps (q .fault) (Z1 (q .boards) (q .k)) (Z2 (q .boards) (q .k)) (Z0 (q .boards) (q .k)) (question net flt room accepted .kind-to)
+  answers-meet : Fair q → Connected fault (atFault (theD q) (theI q) (lift q)) (theI q)
+  unfolding atFault theShort theD theI lift
+  answers-meet a = keeps fault (Z1 boards k) (Z2 boards k) (Z0 boards k) (unearthed boards k) (a .kind-to)
 
-  pub answers-alone : (E : ℤ) (F : Seq) → Connected (q .fault) (voltageOf E F (Z1 (q .boards) (q .k)) (Z2 (q .boards) (q .k)) (Z0 (q .boards) (q .k))) F → SameSeq E F (theD q) (theI q)
-  unfolding asked theD theI
-  answers-alone = forces (q .fault) (Z1 (q .boards) (q .k)) (Z2 (q .boards) (q .k)) (Z0 (q .boards) (q .k)) (z2-not-zero net flt room accepted)
-
-  pub answers-only : Only q (theD q) (answers q)
-  unfolding asked answers
-  answers-only = let a = question net flt room accepted in only q (theD q) (answers q) (a .k-from) (a .k-to) (D-at-least-one net flt room accepted) answers-formed answers-meet answers-alone
+  pub answers-only : Fair q → Only q (theD q) (answers q)
+  unfolding answers
+  answers-only a = only a (theD q) (answers q) (lift q) (a .D-some) answers-formed (answers-meet a) (answers-forced a)
 
 pub demand : Demand
-demand net flt room h = answers-only net flt room (accepted-by net flt room h)
+demand net flt room h = answers-only (asked net flt) (fair net flt room h)

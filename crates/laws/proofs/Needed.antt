@@ -1,5 +1,6 @@
--- The premise is needed: a source without earth return may be lifted to any zero-sequence voltage and the laws still hold, so without the premise the answers are not alone. Assumes nothing.
-use mathlib.Core.Bool.{true}
+-- The premise is needed where R-2 leaves it: in a fault clear of earth a source without earth return may be lifted to any zero-sequence voltage and the laws still hold, so without the premise the answers are not alone.
+-- Assumes nothing.
+use mathlib.Core.Bool.{true, false, _&&_}
 use mathlib.Core.List.{List, [], _∷_, _++_}
 use mathlib.Core.Path.{_≡_, refl, sym, _∙_, ap, subst}
 use Prim.Native.Nat.{ℕ, zero, suc, _*_, _≤_}
@@ -14,14 +15,14 @@ use Rattle.turn.proofs.Ring.{Nring, whole-times}
 use Rattle.turn.proofs.Cancel.{cancel-whole}
 use Rattle.paper.specs.declared.Seq.{Seq}
 use Rattle.paper.specs.Kind.{ohms, none}
-use Rattle.paper.specs.Chain.{feederOf, zeroOf, unearthed, term1, term2}
+use Rattle.paper.specs.Chain.{feederOf, zeroOf, joined, unearthed, term1, term2}
 use Rattle.paper.specs.Fault.{nilN, numOf, seq}
 use Rattle.paper.specs.Phase.{Asked, asked, theD, shows}
 use Rattle.paper.specs.Answer.{verdict, paper}
 use Rattle.paper.proofs.Typed.{head, bd, ft, Typed·open}
 use Rattle.laws.specs.Values.{Values, answers, SameValues}
 use Rattle.laws.specs.Connection.{Condition, Connected}
-use Rattle.laws.specs.Laws.{Ohm0, above, Laws}
+use Rattle.laws.specs.Laws.{Ohm0, above, Laws, lifts}
 use Rattle.laws.specs.Demand.{Only}
 use Rattle.laws.proofs.Demand.{demand}
 
@@ -95,6 +96,10 @@ unearthed-there : unearthed (q .boards) 1 ≡ true
 unfolding paper Typed·open net flt
 unearthed-there = refl
 
+not-freed : (lifts q && joined (q .boards) 1 (q .k)) ≡ false
+unfolding paper Typed·open net flt lifts
+not-freed = refl
+
 none-there : zeroOf (q .boards) 1 ≡ none
 unfolding paper Typed·open net flt
 none-there = refl
@@ -121,7 +126,7 @@ not-the-answers s = go (d .positive)
     d = demand net flt 37 is-accepted
 
     at : theD q ·N oneN ≡ theD q ·N nilN
-    at = s .same-W 1 (omega arith) (omega (arith, one-board)) .same0 ∙ ap (λ t. theD q ·N t) (d .quiet 1 (omega arith) (omega (arith, one-board)) unearthed-there)
+    at = s .same-W 1 (omega arith) (omega (arith, one-board)) .same0 ∙ ap (λ t. theD q ·N t) (d .quiet 1 (omega arith) (omega (arith, one-board)) unearthed-there not-freed)
 
     other : oneN ≡ nilN → ⊥
     other e = let z : _≡_ {A = ℕ} 1 0 = ap (λ (n : Num). natAbs (n .x0)) e in omega arith

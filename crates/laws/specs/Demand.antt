@@ -1,5 +1,5 @@
 -- 00, demand 3: "the answers, brought to the fault's side, obey Ohm's law in every record, Kirchhoff's current law at every board in all three sequences, the source's voltage and the fault's connection, with no
--- remainder. They are also the only values that do, given that a board with no earth return has zero-sequence voltage zero." Assumes nothing.
+-- remainder. They are also the only values that do, given that a board with no earth return has zero-sequence voltage zero." 02, R-2 leaves some boards out of what is given (`Laws.Quiet`). Assumes nothing.
 use mathlib.Core.List.{List}
 use mathlib.Core.Path.{_≡_}
 use Prim.Native.Nat.{ℕ, suc, _+_, _*_, _≤_}

@@ -1,6 +1,7 @@
--- 01, 'The four faults at board k', its last paragraph but one, and 00, demand 3: Ohm's law in every record, Kirchhoff's current law at every board, the source's voltage and the fault's connection,
+-- 01, 'The four faults at board k', its last paragraph but one, 00, demand 3, and 02, R-2: Ohm's law in every record, Kirchhoff's current law at every board, the source's voltage and the fault's connection,
 -- of values over a divisor E. Assumes nothing.
-use mathlib.Core.Bool.{true}
+use mathlib.Core.Bool.{Bool, true, false, _&&_}
+use mathlib.Core.List.{[], _∷_}
 use mathlib.Core.Path.{_≡_}
 use Prim.Native.Nat.{ℕ, zero, suc}
 use lib.Dec.{eqb}
@@ -10,8 +11,9 @@ use Rattle.turn.specs.declared.Num.{Num}
 use Rattle.turn.specs.Number.{wholeN, _+N_, _-N_, _*N_}
 use Rattle.paper.specs.declared.Ohms.{Ohms}
 use Rattle.paper.specs.declared.Seq.{Seq}
+use Rattle.paper.specs.Bytes.{oneOf}
 use Rattle.paper.specs.Kind.{Zero, starts, goes-on, none, term}
-use Rattle.paper.specs.Chain.{board, feederOf, zeroOf, unearthed, term1, term2}
+use Rattle.paper.specs.Chain.{board, feederOf, zeroOf, joined, unearthed, term1, term2}
 use Rattle.paper.specs.Fault.{nilN, numOf, seq}
 use Rattle.paper.specs.Phase.{Asked, onlyIf}
 use Rattle.laws.specs.Values.{Values, Everywhere}
@@ -67,6 +69,10 @@ module _ (q : Asked) (E : ℤ) (v : Values) where
     pub blocked : Everywhere q (λ r. unearthed boards r ≡ true → I r .s0 ≡ nilN)
     pub connected : Connected fault (W k) F
 
--- apart from these, 00's premise: "given that a board with no earth return has zero-sequence voltage zero"
+-- 02, R-2: "For those two faults demand 3's premise of zero W0 leaves out k and the boards so joined to it". Those two: kinds 1 and 3 "without earth return"
+unfoldable pub lifts : Asked → Bool
+lifts q = oneOf (q .fault .kind) (1 ∷ 3 ∷ []) && unearthed (q .boards) (q .k)
+
+-- apart from the laws, 00's premise: "given that a board with no earth return has zero-sequence voltage zero". It leaves those out; "otherwise it stands as before"
 abbrev pub Quiet : Asked → Values → Type 0
-Quiet q v = Everywhere q (λ r. unearthed (q .boards) r ≡ true → v .W r .s0 ≡ nilN)
+Quiet q v = Everywhere q (λ r. unearthed (q .boards) r ≡ true → (lifts q && joined (q .boards) r (q .k)) ≡ false → v .W r .s0 ≡ nilN)

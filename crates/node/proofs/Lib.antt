@@ -2,4 +2,6 @@
 pub mod Records
 -- tables of 256 places
 pub mod Tables
+-- where zero sequence starts, and whether there is an earth return
+pub mod Starts
 mod RuledOut

@@ -12,7 +12,7 @@ use Rattle.paper.specs.Answer.{paper}
 use Rattle.paper.proofs.Typed.{head, bd, ft, Typed·open}
 use Rattle.paper.proofs.Calls.{Figure, call, same, at, taken, refused, neg, All, all→}
 
-abbrev j : ℕ → Ohms
+abbrev pub j : ℕ → Ohms
 j x = ohms 0 x
 
 -- ---- the records
@@ -141,7 +141,7 @@ net3 = head 230 1000 3 ++ gen ++ booth ++ hall
 unfoldable pub net1 : List ℕ
 net1 = head 230 1000 1 ++ gen
 
-unfoldable records : Unit {0}
+unfoldable pub records : Unit {0}
 unfolding gen booth hall gen1365 gen1366 twice booth2 example lop star under block beyond behind bare gap blank lost spaced fed even second sixth cable1 uneven nil over most steep1 steep2 steep0 short one unturned neutral1 neutral2 zero5 rubout neutral4096 net3 net1
 records = tt
 
@@ -215,14 +215,14 @@ others =
     ∷ call (head 230 1000 3 ++ gen ++ block ++ beyond) (ft "BEYOND" 1 0 (j 0)) 85 (taken 3 3 8665) (at 0 (pos 6340 ∷ pos 48 ∷ pos 0 ∷ pos 0 ∷ neg 234 ∷ pos 0 ∷ pos 0 ∷ pos 0 ∷ pos 0 ∷ pos 0 ∷ pos 0 ∷ pos 0 ∷ pos 0 ∷ pos 3220 ∷ pos 0 ∷ pos 0 ∷ neg 640 ∷ pos 1560 ∷ pos 0 ∷ neg 6340 ∷ pos 320 ∷ neg 4780 ∷ pos 0 ∷ pos 6340 ∷ pos 320 ∷ pos 32 ∷ pos 0 ∷ pos 0 ∷ neg 156 ∷ neg 16 ∷ pos 0 ∷ pos 0 ∷ pos 78 ∷ neg 16 ∷ pos 0 ∷ pos 0 ∷ pos 78 ∷ neg 386 ∷ neg 1784 ∷ pos 772 ∷ neg 2278 ∷ pos 0 ∷ pos 0 ∷ pos 0 ∷ pos 6340 ∷ pos 386 ∷ pos 1784 ∷ neg 772 ∷ neg 4062 ∷ neg 78 ∷ neg 32 ∷ pos 156 ∷ pos 16 ∷ pos 0 ∷ pos 0 ∷ pos 0 ∷ pos 0 ∷ pos 78 ∷ pos 32 ∷ neg 156 ∷ neg 16 ∷ pos 0 ∷ pos 0 ∷ pos 0 ∷ pos 0 ∷ pos 1994 ∷ pos 0 ∷ neg 6340 ∷ pos 978 ∷ neg 4346 ∷ pos 0 ∷ pos 6340 ∷ pos 978 ∷ pos 48 ∷ pos 0 ∷ pos 0 ∷ neg 234 ∷ pos 0 ∷ pos 0 ∷ pos 0 ∷ pos 0 ∷ pos 0 ∷ pos 0 ∷ pos 0 ∷ pos 0 ∷ []) ∷ [])
     -- a fault above turned boards
     ∷ call (head 230 1000 3 ++ gen ++ block ++ beyond) (ft "BLOCK" 2 1 (j 0)) 85 (taken 2 3 6864) (at 0 (pos 3368 ∷ pos 4 ∷ neg 58 ∷ neg 2 ∷ neg 58 ∷ pos 0 ∷ pos 0 ∷ pos 0 ∷ pos 0 ∷ neg 4 ∷ pos 58 ∷ pos 2 ∷ pos 58 ∷ []) ∷ at 37 (pos 0 ∷ pos 0 ∷ pos 1684 ∷ pos 0 ∷ pos 0 ∷ pos 0 ∷ neg 3368 ∷ pos 0 ∷ pos 0 ∷ pos 0 ∷ pos 1684 ∷ pos 0 ∷ pos 4 ∷ neg 58 ∷ neg 2 ∷ neg 58 ∷ pos 0 ∷ pos 0 ∷ pos 0 ∷ pos 0 ∷ neg 4 ∷ pos 58 ∷ pos 2 ∷ pos 58 ∷ pos 0 ∷ pos 0 ∷ pos 0 ∷ pos 0 ∷ pos 0 ∷ pos 1684 ∷ pos 0 ∷ pos 1684 ∷ pos 0 ∷ neg 1684 ∷ pos 0 ∷ neg 1684 ∷ pos 0 ∷ pos 0 ∷ pos 0 ∷ pos 0 ∷ pos 0 ∷ pos 0 ∷ pos 0 ∷ pos 0 ∷ pos 0 ∷ pos 0 ∷ pos 0 ∷ pos 0 ∷ []) ∷ [])
-    -- 18: kind 5 keeps earth current out
-    ∷ call (head 230 1000 2 ++ gen ++ block) (ft "BLOCK" 1 0 (j 0)) 61 (refused 18 2 (part FaultBytes 0 20)) ([])
-    -- 18: kind 3 under a board without earth return has none, and no sum to be over 4,095
-    ∷ call (head 230 1000 3 ++ gen ++ block ++ behind) (ft "BEHIND" 3 0 (j 0)) 85 (refused 18 3 (part FaultBytes 0 20)) ([])
+    -- kind 5 keeps earth current out, so BLOCK is lifted
+    ∷ call (head 230 1000 2 ++ gen ++ block) (ft "BLOCK" 1 0 (j 0)) 61 (taken 2 2 0) (at 0 (pos 1 ∷ pos 0 ∷ pos 0 ∷ pos 0 ∷ pos 0 ∷ pos 0 ∷ pos 0 ∷ pos 0 ∷ pos 0 ∷ pos 0 ∷ pos 0 ∷ pos 0 ∷ pos 0 ∷ []) ∷ at 13 (pos 0 ∷ neg 1 ∷ pos 0 ∷ pos 1 ∷ pos 0 ∷ pos 1 ∷ pos 0 ∷ pos 0 ∷ pos 0 ∷ pos 0 ∷ pos 0 ∷ neg 1 ∷ pos 0 ∷ pos 0 ∷ pos 0 ∷ pos 0 ∷ pos 0 ∷ pos 0 ∷ pos 0 ∷ pos 0 ∷ pos 0 ∷ pos 0 ∷ pos 0 ∷ pos 0 ∷ []) ∷ at 37 (pos 0 ∷ pos 0 ∷ pos 0 ∷ pos 0 ∷ neg 1 ∷ pos 0 ∷ neg 1 ∷ pos 0 ∷ neg 2 ∷ pos 0 ∷ pos 1 ∷ pos 0 ∷ pos 0 ∷ pos 0 ∷ pos 0 ∷ pos 0 ∷ pos 0 ∷ pos 0 ∷ pos 0 ∷ pos 0 ∷ pos 0 ∷ pos 0 ∷ pos 0 ∷ pos 0 ∷ []) ∷ [])
+    -- kind 3 under a board without earth return has none, and no sum to be over 4,095
+    ∷ call (head 230 1000 3 ++ gen ++ block ++ behind) (ft "BEHIND" 3 0 (j 0)) 85 (taken 3 3 0) (at 0 (pos 3860 ∷ pos 0 ∷ pos 0 ∷ pos 0 ∷ pos 0 ∷ pos 4 ∷ neg 124 ∷ neg 8 ∷ pos 62 ∷ neg 4 ∷ pos 124 ∷ pos 8 ∷ neg 62 ∷ pos 80 ∷ neg 3860 ∷ pos 0 ∷ pos 2620 ∷ pos 80 ∷ pos 3860 ∷ pos 0 ∷ neg 1240 ∷ neg 160 ∷ pos 0 ∷ pos 0 ∷ neg 1380 ∷ pos 62 ∷ pos 0 ∷ pos 0 ∷ pos 4 ∷ pos 62 ∷ pos 0 ∷ pos 0 ∷ pos 4 ∷ neg 124 ∷ pos 0 ∷ pos 0 ∷ neg 8 ∷ pos 5790 ∷ pos 0 ∷ pos 0 ∷ pos 0 ∷ pos 128 ∷ neg 108 ∷ neg 256 ∷ pos 54 ∷ neg 128 ∷ pos 108 ∷ pos 256 ∷ neg 54 ∷ pos 0 ∷ pos 0 ∷ pos 0 ∷ pos 0 ∷ pos 4 ∷ neg 124 ∷ neg 8 ∷ pos 62 ∷ neg 4 ∷ pos 124 ∷ pos 8 ∷ neg 62 ∷ pos 5790 ∷ pos 0 ∷ pos 0 ∷ pos 0 ∷ pos 0 ∷ pos 0 ∷ pos 0 ∷ pos 0 ∷ pos 0 ∷ pos 0 ∷ pos 0 ∷ pos 0 ∷ pos 0 ∷ pos 0 ∷ pos 0 ∷ pos 0 ∷ pos 4 ∷ neg 124 ∷ neg 8 ∷ pos 62 ∷ neg 4 ∷ pos 124 ∷ pos 8 ∷ neg 62 ∷ []) ∷ [])
     -- a board without earth return has zero-sequence voltage zero
     ∷ call (head 230 1000 3 ++ gen ++ block ++ behind) (ft "BEHIND" 0 0 (j 0)) 85 (taken 3 3 7403) (at 0 (pos 965 ∷ pos 2 ∷ pos 0 ∷ pos 0 ∷ neg 31 ∷ pos 0 ∷ neg 31 ∷ neg 2 ∷ pos 31 ∷ neg 2 ∷ pos 31 ∷ pos 2 ∷ pos 0 ∷ []) ∷ at 61 (pos 0 ∷ pos 0 ∷ pos 0 ∷ pos 0 ∷ pos 0 ∷ pos 0 ∷ pos 0 ∷ pos 0 ∷ pos 0 ∷ pos 0 ∷ pos 0 ∷ pos 0 ∷ pos 2 ∷ pos 0 ∷ pos 0 ∷ neg 31 ∷ pos 0 ∷ neg 31 ∷ neg 2 ∷ pos 31 ∷ neg 2 ∷ pos 31 ∷ pos 2 ∷ pos 0 ∷ []) ∷ [])
-    -- 18: an unearthed source
-    ∷ call (head 230 1000 2 ++ bare ++ booth) (ft "BOOTH-WEST-1" 1 0 (j 0)) 61 (refused 18 2 (part FaultBytes 0 20)) ([])
+    -- an unearthed source
+    ∷ call (head 230 1000 2 ++ bare ++ booth) (ft "BOOTH-WEST-1" 1 0 (j 0)) 61 (taken 2 2 0) (at 0 (pos 1 ∷ pos 0 ∷ pos 0 ∷ pos 0 ∷ pos 0 ∷ pos 0 ∷ pos 0 ∷ pos 0 ∷ pos 0 ∷ pos 0 ∷ pos 0 ∷ pos 0 ∷ pos 0 ∷ pos 0 ∷ pos 0 ∷ pos 0 ∷ pos 0 ∷ neg 1 ∷ pos 0 ∷ neg 1 ∷ pos 0 ∷ neg 2 ∷ pos 0 ∷ pos 1 ∷ pos 0 ∷ pos 0 ∷ pos 0 ∷ pos 0 ∷ pos 0 ∷ pos 0 ∷ pos 0 ∷ pos 0 ∷ pos 0 ∷ pos 0 ∷ pos 0 ∷ pos 0 ∷ pos 0 ∷ pos 0 ∷ pos 0 ∷ pos 0 ∷ pos 0 ∷ neg 1 ∷ pos 0 ∷ neg 1 ∷ pos 0 ∷ neg 2 ∷ pos 0 ∷ pos 1 ∷ pos 0 ∷ pos 0 ∷ pos 0 ∷ pos 0 ∷ pos 0 ∷ pos 0 ∷ pos 0 ∷ pos 0 ∷ pos 0 ∷ pos 0 ∷ pos 0 ∷ pos 0 ∷ pos 0 ∷ []) ∷ [])
     -- 1: under 8 bytes
     ∷ call (take 7 net1) (ft "GEN" 0 0 (j 0)) 37 (refused 1 0 (part NetworkBytes 0 7)) ([])
     -- 2: head mark

@@ -3,6 +3,7 @@ pub mod Typed
 pub mod Compare
 pub mod Calls
 pub mod Figures
+pub mod UnearthedFigures
 pub mod WriteFigures
 -- what tables of wrong answers say of impedances and sequences
 pub mod Told

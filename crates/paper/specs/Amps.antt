@@ -1,5 +1,5 @@
 -- 01, 'The four faults at board k': "Amps: the greatest whole n not above |I|·volts·1,000,000/unit". Assumes nothing.
-use mathlib.Core.Bool.{cond}
+use mathlib.Core.Bool.{Bool, cond}
 use mathlib.Core.List.{List, [], _∷_}
 use Prim.Native.Nat.{ℕ, zero, suc, _+_, _*_, _/_}
 use lib.Dec.{leb}
@@ -47,9 +47,9 @@ module _ (q : Asked) where
   unfoldable pub amps : ℕ
   amps = greatest ampsOver ampsUnder
 
--- |I|²·D in closed form: |1|², |3|², |t⁸ - t⁴|² and |3 Z2|² (and 0 for a number that is no kind). That it is saidSquare over D is a theorem (`amps`, `Exact`)
-unfoldable pub factor : Ohms → ℕ → ℕ
-factor z2 kind = getD (1 ∷ 9 ∷ 3 ∷ 9 * (z2 .r * z2 .r + z2 .x * z2 .x) ∷ []) kind 0
+-- |I|²·D in closed form, at a board without earth return or with one: |1|², |3|² or 0, |t⁸ - t⁴|², and |3 Z2|² or 0 (and 0 for a number that is no kind). That it is saidSquare over D is a theorem (`amps`, `Exact`)
+unfoldable pub factor : Bool → Ohms → ℕ → ℕ
+factor unearthed z2 kind = getD (1 ∷ cond unearthed 0 9 ∷ 3 ∷ cond unearthed 0 (9 * (z2 .r * z2 .r + z2 .x * z2 .x)) ∷ []) kind 0
 
 unfoldable pub Amps·open : Unit {0}
 unfolding root greatest said saidSquare ampsOver ampsUnder amps factor

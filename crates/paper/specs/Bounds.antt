@@ -40,3 +40,7 @@ mostI = 4120149442500
 -- of a referred voltage: mostD + 2 · 4,095 · mostI
 abbrev pub mostW : ℕ
 mostW = 61864043879137500
+
+-- of what W0 is lifted by: 2 · 4,095 · 8,190, where the faulted board's W1 is Z2 times the conjugate of Z1 + Z2
+abbrev pub mostLift : ℕ
+mostLift = 67076100

@@ -1,8 +1,9 @@
--- 01, 'Sums': a board's chain, where its zero sequence starts, and the sums over them. Places count from 1; 0 is no place. What is said of board r looks at no later board.
--- Assumes nothing.
-use mathlib.Core.Bool.{Bool, true, false, not, cond}
+-- 01, 'Sums', and 02, R-2: a board's chain, the part of the network that it lies in, the earth return of that part, and the sums. Places count from 1; 0 is no place. A chain and a part
+-- look at no later board. Assumes nothing.
+use mathlib.Core.Bool.{Bool, true, false, cond}
 use mathlib.Core.List.{List, [], _∷_}
 use Prim.Native.Nat.{ℕ, zero, suc, _+_, _-_}
+use lib.Dec.{eqb}
 use lib.ListN.{getD, take}
 use Rattle.paper.specs.declared.Ohms.{Ohms}
 use Rattle.paper.specs.declared.Board.{Board}
@@ -32,54 +33,81 @@ placeOf l bs = lookFrom 1 l bs
 unfoldable pub feederOf : Boards → ℕ → ℕ
 feederOf bs r = placeOf (board bs r .feeder) (take (r - 1) bs)
 
--- a board's chain: the board itself, then its feeder's chain, to the source. A feeder stands earlier, so r steps are enough
-unfoldable pub climb : ℕ → Boards → ℕ → List ℕ
-climb zero bs r = []
-climb (suc steps) bs zero = []
-climb (suc steps) bs (suc q) = suc q ∷ climb steps bs (feederOf bs (suc q))
+-- a climb: the place r, then the climb from the place that a rule gives for r. It gives an earlier one, so r steps are enough
+unfoldable pub climb : ℕ → (ℕ → ℕ) → ℕ → List ℕ
+climb zero up r = []
+climb (suc steps) up zero = []
+climb (suc steps) up (suc q) = suc q ∷ climb steps up (up (suc q))
 
+-- a board's chain: the board itself, then its feeder's chain, to the source
 unfoldable pub chain : Boards → ℕ → List ℕ
-chain bs r = climb r bs r
+chain bs r = climb r (feederOf bs) r
 
--- ---- zero sequence
+-- ---- the parts of a network: boards that zero sequence joins
 abbrev pub zeroOf : Boards → ℕ → Zero
 zeroOf bs r = kindOf (board bs r .kind) .zero-seq
 
--- "A kind 2 or 3 record under a board without earth return has none either."
-unfoldable pub onto : ℕ → List ℕ → List ℕ
-onto r [] = []
-onto r (q ∷ qs) = r ∷ q ∷ qs
+-- the board that a record joins its own to: its feeder where zero sequence goes on, none (0) where the record heads a part
+unfoldable pub tied : Zero → ℕ → ℕ
+tied (starts t) feeder = 0
+tied (goes-on t) feeder = feeder
+tied none feeder = 0
 
--- the records of a board's zero-sequence sum, from those of its feeder, as the kind table says: starts here; goes on; none
-unfoldable pub zeroStep : Zero → ℕ → List ℕ → List ℕ
-zeroStep (starts t) r feeders = r ∷ []
-zeroStep (goes-on t) r feeders = onto r feeders
-zeroStep none r feeders = []
+unfoldable pub tie : Boards → ℕ → ℕ
+tie bs r = tied (zeroOf bs r) (feederOf bs r)
 
--- the records of a board's zero-sequence sum, from the board back to the record where zero sequence starts; empty where there is none (""None" isn't zero.")
-unfoldable pub zeroClimb : ℕ → Boards → ℕ → List ℕ
-zeroClimb zero bs r = []
-zeroClimb (suc steps) bs zero = []
-zeroClimb (suc steps) bs (suc q) = let feeders = zeroClimb steps bs (feederOf bs (suc q)) in zeroStep (zeroOf bs (suc q)) (suc q) feeders
-
-unfoldable pub zeroChain : Boards → ℕ → List ℕ
-zeroChain bs r = zeroClimb r bs r
+-- the records from board r back to the head of its part, the head included
+unfoldable pub partChain : Boards → ℕ → List ℕ
+partChain bs r = climb r (tie bs) r
 
 unfoldable pub empty : List ℕ → Bool
 empty [] = true
 empty (q ∷ qs) = false
 
--- "board without earth return"
-abbrev pub unearthed : Boards → ℕ → Bool
-unearthed bs r = empty (zeroChain bs r)
-
--- "the record where zero sequence started" (none: 0)
+-- (of none: 0)
 unfoldable pub lastOf : List ℕ → ℕ
 lastOf [] = 0
 lastOf (q ∷ qs) = let rest = lastOf qs in cond (empty qs) q rest
 
-abbrev pub startsAt : Boards → ℕ → ℕ
-startsAt bs r = lastOf (zeroChain bs r)
+-- the record that heads the part: the nearest, on the way from the board to the source, where zero sequence does not go on
+unfoldable pub partHead : Boards → ℕ → ℕ
+partHead bs r = lastOf (partChain bs r)
+
+-- 02, R-2: "k and the boards joined to it by kinds 2 and 3". They have the same head (that such records link them, up and down, is a theorem of `follows`: `Joined`)
+unfoldable pub joined : Boards → ℕ → ℕ → Bool
+joined bs j k = eqb (partHead bs j) (partHead bs k)
+
+-- ---- the earth return of a part: none, or the place that zero-sequence current comes from (0: from above the head, where it starts). ""None" isn't zero."
+pub data Earth : Type 0 where
+  no-earth : Earth
+  earth-at : ℕ → Earth
+
+-- by the head's word in the kind table (a head that goes on has no feeder, which 8 and 9 refuse)
+unfoldable pub earthBy : Zero → Earth
+earthBy (starts t) = earth-at 0
+earthBy (goes-on t) = no-earth
+earthBy none = no-earth
+
+-- (place 0, which is no board, has none)
+unfoldable pub earthOf : Boards → ℕ → Earth
+earthOf bs zero = no-earth
+earthOf bs (suc q) = earthBy (zeroOf bs (partHead bs (suc q)))
+
+unfoldable pub isNone : Earth → Bool
+isNone no-earth = true
+isNone (earth-at e) = false
+
+-- "board without earth return"; "A kind 2 or 3 record under a board without earth return has none either."
+abbrev pub unearthed : Boards → ℕ → Bool
+unearthed bs r = isNone (earthOf bs r)
+
+-- the records of a board's zero-sequence sum, from the board back to the record where zero sequence starts; empty where there is none
+unfoldable pub returnBy : Earth → List ℕ → List ℕ
+returnBy no-earth part = []
+returnBy (earth-at e) part = part
+
+unfoldable pub zeroChain : Boards → ℕ → List ℕ
+zeroChain bs r = returnBy (earthOf bs r) (partChain bs r)
 
 -- ---- sums over records
 unfoldable pub sumΩ : (ℕ → Ohms) → List ℕ → Ohms
@@ -127,10 +155,10 @@ unfoldable pub shared2 : Boards → ℕ → ℕ → Ohms
 shared2 bs j k = sumΩ (term2 bs) (common (chain bs j) (chain bs k))
 
 -- "For zero sequence it sums only those from the starting record on, with their zero-sequence terms, and is zero unless both boards have the same starting record."
--- (Zero chains of other starting records have no record in common: a theorem of `follows`, `shared-apart`.)
+-- (The starting record is the head of the part. Other parts have no record in common: a theorem of `follows`, `shared-apart`.)
 unfoldable pub shared0 : Boards → ℕ → ℕ → Ohms
 shared0 bs j k = sumΩ (term0 bs) (common (zeroChain bs j) (zeroChain bs k))
 
 unfoldable pub Chain·open : Unit {0}
-unfolding lookFrom feederOf climb chain onto zeroStep zeroClimb zeroChain empty lastOf sumΩ sumℕ Z1 Z2 Z0 turnOf common shared1 shared2 shared0
+unfolding lookFrom feederOf climb chain tied tie partChain empty lastOf partHead joined earthBy earthOf isNone returnBy zeroChain sumΩ sumℕ Z1 Z2 Z0 turnOf common shared1 shared2 shared0
 Chain·open = tt

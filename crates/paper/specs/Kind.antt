@@ -114,6 +114,12 @@ zeroTerm (starts t) b = term t b
 zeroTerm (goes-on t) b = term t b
 zeroTerm none b = ohms 0 0
 
+-- "starts here", "starts afresh"
+unfoldable pub isStart : Zero → Bool
+isStart (starts t) = true
+isStart (goes-on t) = false
+isStart none = false
+
 unfoldable pub Kind·open : Unit {0}
-unfolding _+Ω_ thrice isZero sameOhms partOver kinds known kindOf standsAt holds allHold term zeroTerm
+unfolding _+Ω_ thrice isZero sameOhms partOver kinds known kindOf standsAt holds allHold term zeroTerm isStart
 Kind·open = tt

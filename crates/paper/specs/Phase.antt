@@ -1,4 +1,4 @@
--- 01, 'The four faults at board k': voltages, record currents, phases and turns, of an accepted question. Assumes nothing.
+-- 01, 'The four faults at board k', and 02, R-2: voltages, record currents, phases and turns, of an accepted question. Assumes nothing.
 use mathlib.Core.Bool.{Bool, true, false}
 use mathlib.Core.List.{List, [], _∷_}
 use Prim.Native.Nat.{ℕ, _+_, _*_, _%_}
@@ -9,10 +9,10 @@ use Rattle.paper.specs.declared.Head.{Head}
 use Rattle.paper.specs.declared.Fault.{Fault}
 use Rattle.paper.specs.Bytes.{oneOf}
 use Rattle.paper.specs.File.{headOf, faultOf, boardsOf}
-use Rattle.paper.specs.Chain.{Boards, placeOf, chain, zeroChain, Z1, Z2, Z0, shared1, shared2, shared0, turnOf}
+use Rattle.paper.specs.Chain.{Boards, placeOf, chain, joined, unearthed, zeroChain, Z1, Z2, Z0, shared1, shared2, shared0, turnOf}
 use Rattle.paper.specs.declared.Ohms.{Ohms}
 use Rattle.paper.specs.declared.Seq.{Seq}
-use Rattle.paper.specs.Fault.{nilN, numOf, seq, D, currents}
+use Rattle.paper.specs.Fault.{nilN, numOf, seq, Short, shortOf, D, currents, liftOf}
 
 -- ---- a question: a network and a fault, decoded, with the faulted board's place
 pub record Asked : Type 0 where
@@ -32,23 +32,31 @@ unfoldable pub onlyIf : Bool → Num → Num
 onlyIf true n = n
 onlyIf false n = nilN
 
--- "W1 = 1 - Z1jk·I1, W2 = -Z2jk·I2, W0 = -Z0jk·I0", over D, of the impedances that j and k share
-unfoldable pub voltageOf : ℤ → Seq → Ohms → Ohms → Ohms → Seq
-voltageOf D I za zb zc = seq (wholeN D -N numOf za *N I .s1) (negN (numOf zb *N I .s2)) (negN (numOf zc *N I .s0))
+-- "W1 = 1 - Z1jk·I1, W2 = -Z2jk·I2, W0 = -Z0jk·I0", over D, of the impedances that j and k share; W0 with what it is lifted by
+unfoldable pub voltageOf : ℤ → Seq → Ohms → Ohms → Ohms → Num → Seq
+voltageOf D I za zb zc up = seq (wholeN D -N numOf za *N I .s1) (negN (numOf zb *N I .s2)) (negN (numOf zc *N I .s0) +N up)
 
 module _ (q : Asked) where
   open Asked q using (boards, fault, k)
 
+  -- the row of the fault, by whether board k has an earth return
+  unfoldable pub theShort : Short
+  theShort = shortOf (numOf (Z1 boards k)) (numOf (Z2 boards k)) (numOf (Z0 boards k)) (numOf (fault .zf)) (unearthed boards k) (fault .kind)
+
   -- D, and I1, I2 and I0 over it
   unfoldable pub theD : ℤ
-  theD = D (numOf (Z1 boards k)) (numOf (Z2 boards k)) (numOf (Z0 boards k)) (numOf (fault .zf)) (fault .kind)
+  theD = D theShort
 
   unfoldable pub theI : Seq
-  theI = currents (numOf (Z1 boards k)) (numOf (Z2 boards k)) (numOf (Z0 boards k)) (numOf (fault .zf)) (fault .kind)
+  theI = currents theShort
+
+  -- 02, R-2: what W0 is lifted by at k and the boards joined to it, where they have no earth return (board k's W1 is D - Z1·I1: it shares all of its chain with itself)
+  unfoldable pub lift : Num
+  lift = onlyIf (unearthed boards k) (liftOf (fault .kind) (wholeN theD -N numOf (Z1 boards k) *N theI .s1))
 
   -- "The referred voltages of board j"
   unfoldable pub voltage : ℕ → Seq
-  voltage j = voltageOf theD theI (shared1 boards j k) (shared2 boards j k) (shared0 boards j k)
+  voltage j = voltageOf theD theI (shared1 boards j k) (shared2 boards j k) (shared0 boards j k) (onlyIf (joined boards j k) lift)
 
   -- "A record on k's chain carries I1 and I2; it carries I0 if it also lies on k's zero-sequence sum; otherwise zero."
   unfoldable pub current : ℕ → Seq
@@ -86,5 +94,5 @@ module _ (q : Asked) where
   recordCurrents j = phases (fault .phase) (turnOf boards j) (turnOf boards k) (current q j)
 
 unfoldable pub Phase·open : Unit {0}
-unfolding asked voltageOf theD theI voltage onlyIf current shows phase phases faultCurrents boardVoltages recordCurrents
+unfolding asked voltageOf theShort theD theI lift voltage onlyIf current shows phase phases faultCurrents boardVoltages recordCurrents
 Phase·open = tt

@@ -1,4 +1,4 @@
--- 01, 'What the caller gets': the refusal table, 1 to 19, in its order. Assumes nothing.
+-- 01, 'What the caller gets': the refusal table, 1 to 19, in its order (02, R-2: "18 is withdrawn, never reused"). Assumes nothing.
 use mathlib.Core.Bool.{Bool, true, false, not, _&&_, _||_}
 use mathlib.Core.List.{List, [], _∷_, _++_}
 use mathlib.Core.Option.{Option, none}
@@ -15,9 +15,9 @@ use Rattle.paper.specs.Bytes.{sameBytes, oneOf, within, part}
 use Rattle.paper.specs.declared.Refusal.{Refusal}
 use Rattle.paper.specs.Rows.{Test, test, Row, row, rowsAt, first, _then_}
 use Rattle.paper.specs.Label.{spaces, formed}
-use Rattle.paper.specs.Kind.{partOver, kindOf, known, standsAt, allHold}
+use Rattle.paper.specs.Kind.{partOver, kindOf, known, standsAt, allHold, isStart}
 use Rattle.paper.specs.File.{markOf, HD, BD, FT, headOf, headSize, boardOf, boardSize, faultOf, faultSize, fileSize, startOf, recordsOf, boardsOf}
-use Rattle.paper.specs.Chain.{Boards, placeOf, unearthed, Z1, Z2, Z0}
+use Rattle.paper.specs.Chain.{Boards, placeOf, zeroOf, partChain, partHead, sumΩ, term0, Z1, Z2}
 
 -- ---- the parts
 abbrev pub allOf : Lent → List ℕ → Part
@@ -60,9 +60,9 @@ kindWrong r b = not (known (b .kind)) || not (oneOf (b .clock) (kindOf (b .kind)
 unfoldable pub impedanceWrong : Board → Bool
 impedanceWrong b = partOver 4095 (b .z1) || partOver 4095 (b .z2) || partOver 4095 (b .z0) || partOver 4095 (b .zn) || not (allHold (kindOf (b .kind) .rules) b)
 
--- "a part of Z1, Z2 or an existing Z0 over 4,095" (where there is none, the sum is of no records)
+-- "a part of Z1, Z2 or an existing Z0 over 4,095" (a Z0 that exists starts at the head of the part, and is summed from there)
 unfoldable pub sumWrong : Boards → ℕ → Bool
-sumWrong bs r = partOver 4095 (Z1 bs r) || partOver 4095 (Z2 bs r) || partOver 4095 (Z0 bs r)
+sumWrong bs r = partOver 4095 (Z1 bs r) || partOver 4095 (Z2 bs r) || isStart (zeroOf bs (partHead bs r)) && partOver 4095 (sumΩ (term0 bs) (partChain bs r))
 
 -- 6 to 11, asked of a board that is to stand behind the boards before it: whoever reads, writes or adds one asks these
 unfoldable pub boardTests : Boards → Board → List Test
@@ -106,10 +106,6 @@ networkRefusal net = first (headRows net) then recordsRefusal [] (recordsOf net)
 unfoldable pub phaseWrong : Fault → Bool
 phaseWrong f = ltb 2 (f .phase) || eqb (f .kind) 0 && not (eqb (f .phase) 0)
 
--- "kind 1 or 3, board without earth return"
-unfoldable pub earthMissing : Boards → ℕ → Fault → Bool
-earthMissing bs k f = oneOf (f .kind) (1 ∷ 3 ∷ []) && unearthed bs k
-
 -- places of the answer for n boards
 abbrev pub answerSize : ℕ → ℕ
 answerSize n = 13 + 24 * n
@@ -124,7 +120,6 @@ faultRows bs s room =
     ∷ row 15 (ltb 3 (f .kind)) 0 theFault
     ∷ row 16 (phaseWrong f) 0 theFault
     ∷ row 17 (partOver 1365 (f .zf)) 0 theFault
-    ∷ row 18 (earthMissing bs k f) k theFault
     ∷ row 19 (ltb room (answerSize (length bs))) 0 (part FaultBytes 0 0)
     ∷ []
 
@@ -133,5 +128,5 @@ unfoldable pub refusal : List ℕ → List ℕ → ℕ → Option Refusal
 refusal net flt room = networkRefusal net then first (faultRows (boardsOf net) flt room)
 
 unfoldable pub Refusal·open : Unit {0}
-unfolding headRanges headRows feederWrong kindWrong impedanceWrong sumWrong boardTests recordRefusal inOrder boardRefusal networkRefusal phaseWrong earthMissing faultRows refusal
+unfolding headRanges headRows feederWrong kindWrong impedanceWrong sumWrong boardTests recordRefusal inOrder boardRefusal networkRefusal phaseWrong faultRows refusal
 Refusal·open = tt

@@ -1,24 +1,22 @@
 -- Record r behind the boards before it: its rules 7 and 8 by where its labels stand among all boards, and its node from its feeder's. Assumes nothing.
-use mathlib.Core.Bool.{Bool, true, false, not, cond, _&&_}
-use mathlib.Core.List.{List, [], _∷_, _++_}
-use mathlib.Core.Path.{_≡_, refl, sym, _∙_, ap}
-use Prim.Native.Nat.{ℕ, zero, suc, _+_, _≤_, _<_}
+use mathlib.Core.Bool.{Bool, true, false, not, cond}
+use mathlib.Core.List.{_∷_, _++_}
+use mathlib.Core.Path.{_≡_, refl, sym, _∙_}
+use Prim.Native.Nat.{ℕ, suc, _+_, _≤_}
 use native.Mathlib.Decide.{decLe}
 use native.Mathlib.Omega.{arith}
-use lib.Dec.{eqb}
 use lib.ListN.{length}
-use borrow.Author.Tests.{eq-eqb, ne-eqb, eqb-true, eqb-false}
 use Rattle.paper.specs.declared.Ohms.{Ohms}
 use Rattle.paper.specs.declared.Board.{Board}
 use Rattle.paper.specs.Label.{Label}
-use Rattle.paper.specs.Kind.{ohms, _+Ω_, Zero, starts, goes-on, none, kindOf, term}
-use Rattle.paper.specs.Chain.{Boards, placeOf, lookFrom, feederOf, startsAt, unearthed, Z1, Z2, Z0, turnOf}
-use Rattle.paper.specs.Refusal.{feederWrong}
+use Rattle.paper.specs.Kind.{ohms, _+Ω_, Term, Zero, starts, goes-on, none, kindOf, term}
+use Rattle.paper.specs.Chain.{Boards, placeOf, lookFrom, feederOf, partHead, Earth, isNone, unearthed, Z1, Z2, Z0, turnOf}
 use Rattle.follows.proofs.Places.{same-label, look-here, place-most, place-stays, place-behind, Looked, looked, missing, found}
-use Rattle.follows.proofs.Chain.{ZeroIs, starts-nowhere}
-use Rattle.follows.proofs.Next.{feeder-next, Z1-next, Z2-next, turn-next, next-starts, next-goes-on, next-cut, next-blocked}
+use Rattle.follows.proofs.Parts.{ZeroIs}
+use Rattle.follows.proofs.Next.{feeder-next, Z1-next, Z2-next, turn-next, next-starts, next-tied, next-blocked}
 use Rattle.node.specs.declared.Node.{Node}
-use Rattle.node.specs.Node.{nodeOf, nodeFrom, withZero}
+use Rattle.node.specs.Node.{startOf, nodeOf, zeroed, nodeFrom, withZero}
+use Rattle.node.proofs.Starts.{starts-nowhere}
 
 -- what is found from place r on is 0 or at least r
 from-there : (r : ℕ) (l : Label) (bs : Boards) → 1 ≤ r → (lookFrom r l bs ≡ 0 → ⊥) → r ≤ lookFrom r l bs
@@ -64,26 +62,27 @@ module _ (before : Boards) (b : Board) (rest : Boards) where
   abbrev all : Boards
   all = before ++ (b ∷ rest)
 
-  -- the zero sequence of the node is what the chain says
+  -- the zero sequence of the node is what the part says
   abbrev base : Node
-  base = record { z1 = Z1 all r; z2 = Z2 all r; z0 = ohms 0 0; feeder = feederOf all r; start = 0; turn = turnOf all r }
+  base = record { z1 = Z1 all r; z2 = Z2 all r; z0 = ohms 0 0; feeder = feederOf all r; head = 0; start = 0; turn = turnOf all r }
 
-  said : {l : List ℕ} {z : Ohms} {s : ℕ} → ZeroIs all r l z s → record { z1 = Z1 all r; z2 = Z2 all r; z0 = z; feeder = feederOf all r; start = s; turn = turnOf all r } ≡ nodeOf all r
-  unfolding nodeOf
-  said e = λ i. record { z1 = Z1 all r; z2 = Z2 all r; z0 = sym (e .zero-sum) i; feeder = feederOf all r; start = sym (e .zero-start) i; turn = turnOf all r }
+  said : {z : Ohms} {h : ℕ} {e : Earth} → ZeroIs all r h e z → zeroed base z h (cond (isNone e) 0 h) ≡ nodeOf all r
+  unfolding nodeOf startOf
+  said s = λ i. zeroed base (sym (s .zero-sum) i) (sym (s .zero-head) i) (cond (isNone (sym (s .zero-earth) i)) 0 (sym (s .zero-head) i))
 
-  zero-node : (z : Zero) → kindOf (b .kind) .zero-seq ≡ z → withZero base b r z (nodeOf before fed) ≡ nodeOf all r
-  unfolding nodeOf withZero
-  zero-node (starts t) e = said (next-starts before b rest e)
-  zero-node (goes-on t) e = go (eqb (startsAt before fed) 0) (starts-nowhere before fed)
-    where
-      go : (c : Bool) → c ≡ unearthed before fed → cond c base (record { z1 = Z1 all r; z2 = Z2 all r; z0 = term t b +Ω Z0 before fed; feeder = feederOf all r; start = startsAt before fed; turn = turnOf all r }) ≡ nodeOf all r
-      go true h = said (next-cut before b rest e (sym h))
-      go false h = said (next-goes-on before b rest e (sym h))
-  zero-node none e = said (next-blocked before b rest e)
+  -- what goes on has a feeder (8 and 9)
+  abbrev Fed : Type 0
+  Fed = (t : Term) → kindOf (b .kind) .zero-seq ≡ goes-on t → 1 ≤ fed
 
-  pub node-next : nodeFrom r b fed (nodeOf before fed) ≡ nodeOf all r
+  zero-node : Fed → (z : Zero) → kindOf (b .kind) .zero-seq ≡ z → withZero base b r z (nodeOf before fed) ≡ nodeOf all r
+  unfolding withZero nodeOf startOf isNone
+  zero-node f (starts t) e = said (next-starts before b rest e)
+  zero-node f (goes-on t) e =
+      (λ i. zeroed base (cond (starts-nowhere before fed (f t e) i) (ohms 0 0) (term t b +Ω Z0 before fed)) (partHead before fed) (startOf before fed)) ∙ said (next-tied before b rest e (f t e))
+  zero-node f none e = said (next-blocked before b rest e)
+
+  pub node-next : Fed → nodeFrom r b fed (nodeOf before fed) ≡ nodeOf all r
   unfolding nodeFrom nodeOf
-  node-next =
-      (λ i. withZero (record { z1 = sym (Z1-next before b rest) i; z2 = sym (Z2-next before b rest) i; z0 = ohms 0 0; feeder = sym (feeder-next before b rest) i; start = 0; turn = sym (turn-next before b rest) i }) b r (kindOf (b .kind) .zero-seq) (nodeOf before fed))
-      ∙ zero-node (kindOf (b .kind) .zero-seq) refl
+  node-next f =
+      (λ i. withZero (record { z1 = sym (Z1-next before b rest) i; z2 = sym (Z2-next before b rest) i; z0 = ohms 0 0; feeder = sym (feeder-next before b rest) i; head = 0; start = 0; turn = sym (turn-next before b rest) i }) b r (kindOf (b .kind) .zero-seq) (nodeOf before fed))
+      ∙ zero-node f (kindOf (b .kind) .zero-seq) refl

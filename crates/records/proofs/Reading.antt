@@ -1,33 +1,33 @@
 -- The reader's loop: after i records they have passed, their boards are sound, and the nodes of the table are theirs. Assumes nothing.
-use mathlib.Core.Bool.{Bool, true, false, not, cond, _||_}
+use mathlib.Core.Bool.{Bool, true, false, not, cond}
 use mathlib.Core.List.{List, [], _∷_, _++_}
 use mathlib.Core.Logic.{_⊎_, inl, inr}
 use mathlib.Core.Option.{none, some}
 use mathlib.Core.Path.{_≡_, refl, sym, _∙_, ap, subst}
-use Prim.Native.Nat.{ℕ, zero, suc, _+_, _*_, _-_, _≤_, _<_}
+use Prim.Native.Nat.{ℕ, suc, _+_, _-_, _≤_, _<_}
 use native.Mathlib.Decide.{decLe}
 use native.Mathlib.Omega.{arith}
-use lib.Dec.{ltb, eqb, lit≤}
+use lib.Dec.{ltb, lit≤}
 use lib.ListN.{length, getD, take, drop, set}
 use lib.Seq.{length-take-le}
 use borrow.Author.Tests.{lt-ltb, le-ltb, eq-eqb, ne-eqb, eqb-true}
-use Rattle.lemmas.proofs.Bools.{same-by}
 use Rattle.paper.specs.declared.Board.{Board}
 use Rattle.paper.specs.declared.Refusal.{Refusal}
-use Rattle.paper.specs.Label.{Label, formed}
-use Rattle.paper.specs.Kind.{ohms, partOver}
+use Rattle.paper.specs.Label.{Label}
+use Rattle.paper.specs.Kind.{ohms}
 use Rattle.paper.specs.File.{markOf, boardOf, boardsOf, recordsOf}
-use Rattle.paper.specs.Chain.{Boards, lookFrom, placeOf, feederOf, Z1, Z2, Z0, turnOf}
-use Rattle.paper.specs.Refusal.{sumWrong, recordsRefusal, recordRefusal, theRecord}
+use Rattle.paper.specs.Chain.{Boards, lookFrom, placeOf, feederOf, earthOf, isNone, turnOf}
+use Rattle.paper.specs.Refusal.{feederWrong, sumWrong, recordsRefusal, recordRefusal, theRecord}
 use Rattle.follows.proofs.Places.{place-most}
 use Rattle.paper.specs.Bounds.{AtMost}
-use Rattle.follows.proofs.Chain.{Z1-none, Z2-none, turn-none, ZeroIs, is-none}
-use Rattle.follows.proofs.Before.{feeder-before, start-before, turn-before, Z1-before, Z2-before, Z0-before}
+use Rattle.follows.proofs.Chain.{Z1-none, Z2-none, turn-none}
+use Rattle.follows.proofs.Parts.{head-none, Z0-none}
+use Rattle.follows.proofs.Before.{feeder-before, head-before, earth-before, turn-before, Z1-before, Z2-before, Z0-before}
 use Rattle.follows.proofs.Fit.{Fit, fit}
-use Rattle.follows.proofs.Sound.{SoundAt, Sound, sound-none, sound-next, Tested, turn-small}
+use Rattle.follows.proofs.Sound.{Sound, sound-none, sum-wrong-is, going-on, sound-next, Tested, Z0-small, turn-small}
 use Rattle.node.specs.declared.Node.{Node}
 use Rattle.records.specs.declared.Step.{Step}
-use Rattle.node.specs.Node.{nodeOf, nodeFrom, nodeOver, noNode, UpSmall}
+use Rattle.node.specs.Node.{startOf, nodeOf, nodeFrom, nodeOver, noNode, UpSmall}
 use Rattle.records.specs.Rules.{broken, earlier, stepOf}
 use Rattle.node.specs.Tables.{table, nodesFrom}
 use Rattle.records.proofs.Behind.{place-earlier, place-not-earlier, node-next}
@@ -37,21 +37,20 @@ use Rattle.node.proofs.Records.{count, bytesOf, boards-count, before-next, all-
 
 -- ---- nodes
 pub node-none : (bs : Boards) → nodeOf bs 0 ≡ noNode
-unfolding nodeOf feederOf lookFrom
-node-none bs =
-    let z = is-none bs in
-    λ i. record { z1 = Z1-none bs i; z2 = Z2-none bs i; z0 = z .zero-sum i; feeder = 0; start = z .zero-start i; turn = turn-none bs i }
+unfolding nodeOf startOf feederOf lookFrom earthOf isNone
+node-none bs = λ i. record { z1 = Z1-none bs i; z2 = Z2-none bs i; z0 = Z0-none bs i; feeder = 0; head = head-none bs i; start = 0; turn = turn-none bs i }
 
 -- a board's node looks at no later board
 pub node-before : (before rest : Boards) (r : ℕ) → r ≤ length before → nodeOf (before ++ rest) r ≡ nodeOf before r
-unfolding nodeOf
+unfolding nodeOf startOf
 node-before before rest r h =
     λ i. record {
       z1 = Z1-before before rest r h i;
       z2 = Z2-before before rest r h i;
       z0 = Z0-before before rest r h i;
       feeder = feeder-before before rest r h i;
-      start = start-before before rest r h i;
+      head = head-before before rest r h i;
+      start = cond (isNone (earth-before before rest r h i)) 0 (head-before before rest r h i);
       turn = turn-before before rest r h i;
     }
 
@@ -71,9 +70,9 @@ earlier-is before b rest l = go (decLe 1 fed) (decLe fed (length before))
         rw (lt-ltb fed (suc (length before)) (omega arith)) (e ∙ sym (place-not-earlier before b rest l (λ h k. p h)))
 
 -- ---- the sums of a sound board fit their words, and those of no board
-sound-up : (bs : Boards) (k : ℕ) → SoundAt bs k → turnOf bs k ≤ 2805 → UpSmall (nodeOf bs k)
+sound-up : (bs : Boards) → Sound bs → (k : ℕ) → 1 ≤ k → k ≤ length bs → turnOf bs k ≤ 2805 → UpSmall (nodeOf bs k)
 unfolding nodeOf
-sound-up bs k a t = record { up1 = a .Z1-small; up2 = a .Z2-small; up0 = a .Z0-small; up-turn = t }
+sound-up bs s k h l t = let a = s k h l in record { up1 = a .Z1-small; up2 = a .Z2-small; up0 = Z0-small bs s k h l; up-turn = t }
 
 none-up : UpSmall noNode
 none-up =
@@ -151,7 +150,7 @@ module _ (net : List ℕ) where
         go : Dec (1 ≤ feeder) → UpSmall (nodeOf before feeder)
         go (yes p) =
             let f = feeder-to in
-            sound-up before feeder (read .sound feeder p (omega (arith, so-far))) (omega (arith, turn-small before (read .sound) feeder (omega (arith, so-far))))
+            sound-up before (read .sound) feeder p (omega (arith, so-far)) (omega (arith, turn-small before (read .sound) feeder (omega (arith, so-far))))
         go (no f) =
             let e : 0 ≡ feeder = omega arith in
             subst UpSmall (sym (node-none before) ∙ ap (nodeOf before) e) none-up
@@ -174,36 +173,49 @@ module _ (net : List ℕ) where
       abbrev node : Node
       node = nodeFrom (suc i) b feeder up
 
-      node-behind : (l : Boards) → node ≡ nodeOf (before ++ (b ∷ l)) (suc (length before))
-      node-behind l = (λ j. nodeFrom (suc (sym so-far j)) b feeder (up-right j)) ∙ (λ j. nodeFrom (suc (length before)) b (feeder-is j) (nodeOf before (feeder-is j))) ∙ node-next before b l
+      abbrev m : ℕ
+      m = broken (suc i) (markOf s) b own fed
 
-      node-is : node ≡ nodeOf bs (suc i)
-      node-is = node-behind rest ∙ (λ j. nodeOf (sym split j) (suc (so-far j)))
+      -- with 5 to 10 kept, the record is as the paper has it behind those before
+      module _ (e : m ≡ 0) where
+        k : Kept (suc (length before)) (markOf s) b (placeOf (b .label) (before ++ (b ∷ rest))) (placeOf (b .feeder) (before ++ (b ∷ rest)))
+        k = all-kept (suc (length before)) (markOf s) b (placeOf (b .label) (before ++ (b ∷ rest))) (placeOf (b .feeder) (before ++ (b ∷ rest))) (broken-is ∙ e)
 
-      sums-are : sumWrong (before ++ (b ∷ [])) (suc (length before)) ≡ nodeOver node
-      unfolding sumWrong nodeOver nodeOf
-      sums-are = ap nodeOver (sym (node-behind []))
+        fits-alone : Fit (suc (length before)) b
+        fits-alone = fit (suc (length before)) b (k .label-kept) (k .kind-kept) (k .impedance-kept)
+
+        fed-right : feederWrong before b ≡ false
+        fed-right = sym (fed-test before b rest) ∙ k .fed-kept
+
+        node-behind : (l : Boards) → node ≡ nodeOf (before ++ (b ∷ l)) (suc (length before))
+        node-behind l =
+            (λ j. nodeFrom (suc (sym so-far j)) b feeder (up-right j)) ∙ (λ j. nodeFrom (suc (length before)) b (feeder-is j) (nodeOf before (feeder-is j)))
+            ∙ node-next before b l (λ t. going-on before b fits-alone fed-right)
+
+        node-is : node ≡ nodeOf bs (suc i)
+        node-is = node-behind rest ∙ (λ j. nodeOf (sym split j) (suc (so-far j)))
+
+        sums-are : sumWrong (before ++ (b ∷ [])) (suc (length before)) ≡ nodeOver node
+        unfolding nodeOver nodeOf
+        sums-are = sum-wrong-is (before ++ (b ∷ [])) (length before) ∙ ap nodeOver (sym (node-behind []))
 
       -- kept, it is sound behind those before
-      passes : broken (suc i) (markOf s) b own fed ≡ 0 → nodeOver node ≡ false → Read (suc i) (set nodes i node)
+      passes : (e : m ≡ 0) → nodeOver node ≡ false → Read (suc i) (set nodes i node)
       passes e v =
           record {
             to = h;
-            passed = passed-next net i h (read .passed) (record-passes before s rest (broken-is ∙ e) (sums-are ∙ v));
+            passed = passed-next net i h (read .passed) (record-passes before s rest (broken-is ∙ e) (sums-are e ∙ v));
             sound = subst Sound (sym (before-next net i h)) (sound-next before b (read .sound) tested-here);
             are = ap (λ (l : List Node). set l i node) (read .are) ∙ stored;
           }
         where
-          k : Kept (suc (length before)) (markOf s) b (placeOf (b .label) (before ++ (b ∷ rest))) (placeOf (b .feeder) (before ++ (b ∷ rest)))
-          k = all-kept (suc (length before)) (markOf s) b (placeOf (b .label) (before ++ (b ∷ rest))) (placeOf (b .feeder) (before ++ (b ∷ rest))) (broken-is ∙ e)
-
           tested-here : Tested before b
           tested-here =
               record {
-                own = fit (suc (length before)) b (k .label-kept) (k .kind-kept) (k .impedance-kept);
-                unused = eqb-true (placeOf (b .label) before) 0 (sym (own-test before s rest) ∙ eq-eqb _ _ (k .own-kept));
-                feeder = sym (fed-test before b rest) ∙ k .fed-kept;
-                sums = sums-are ∙ v;
+                own = fits-alone e;
+                unused = eqb-true (placeOf (b .label) before) 0 (sym (own-test before s rest) ∙ eq-eqb _ _ (k e .own-kept));
+                feeder = fed-right e;
+                sums = sums-are e ∙ v;
               }
 
           xs : List Node
@@ -218,13 +230,10 @@ module _ (net : List ℕ) where
           stored : set (table noNode xs) i node ≡ table noNode (nodesFrom bs 1 (suc i))
           stored =
               ap (λ (m : ℕ). set (table noNode xs) m node) (sym n) ∙ table-put noNode xs node (omega (arith, n, few))
-              ∙ ap (λ (x : Node). table noNode (xs ++ (x ∷ []))) (node-is ∙ ap (nodeOf bs) next-place)
+              ∙ ap (λ (x : Node). table noNode (xs ++ (x ∷ []))) (node-is e ∙ ap (nodeOf bs) next-place)
               ∙ ap (table noNode) (sym (nodes-next bs 1 i))
 
       -- ---- the two ways on: a number refuses the network, 0 goes on
-      abbrev m : ℕ
-      m = broken (suc i) (markOf s) b own fed
-
       kept-step : m ≡ 0 → stepped up ≡ record { node = node; number = cond (nodeOver node) 11 0 }
       unfolding stepOf
       kept-step e = rw (eq-eqb m 0 e)
@@ -237,7 +246,7 @@ module _ (net : List ℕ) where
       step-refused n q = go (decLe 1 m)
         where
           over : m ≡ 0 → (c : Bool) → nodeOver node ≡ c → cond c 11 0 ≡ suc n → recordsRefusal [] (recordsOf net) ≡ some (refusalOf (suc n))
-          over e true v w = at-place (record-over before s rest (broken-is ∙ e) (sums-are ∙ v)) ∙ ap (λ (k : ℕ). some (refusalOf k)) w
+          over e true v w = at-place (record-over before s rest (broken-is ∙ e) (sums-are e ∙ v)) ∙ ap (λ (k : ℕ). some (refusalOf k)) w
           over e false v w = absurd (omega arith)
 
           go : Dec (1 ≤ m) → recordsRefusal [] (recordsOf net) ≡ some (refusalOf (suc n))

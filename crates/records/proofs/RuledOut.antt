@@ -33,11 +33,11 @@ use Rattle.records.proofs.judge.Reads as judge
 
 -- ---- answers told apart
 abbrev fields : Node → List ℕ
-fields n = parts (n .z1) ++ parts (n .z2) ++ parts (n .z0) ++ (n .feeder ∷ n .start ∷ n .turn ∷ [])
+fields n = parts (n .z1) ++ parts (n .z2) ++ parts (n .z0) ++ (n .feeder ∷ n .head ∷ n .start ∷ n .turn ∷ [])
 
 -- ---- nodes and boards
-abbrev node : Ohms → Ohms → Ohms → ℕ → ℕ → ℕ → Node
-node z1 z2 z0 f s t = record { z1 = z1; z2 = z2; z0 = z0; feeder = f; start = s; turn = t }
+abbrev node : Ohms → Ohms → Ohms → ℕ → ℕ → ℕ → ℕ → Node
+node z1 z2 z0 f h s t = record { z1 = z1; z2 = z2; z0 = z0; feeder = f; head = h; start = s; turn = t }
 
 abbrev board : ℕ → ℕ → Ohms → Board
 board k c z2 = record { z1 = ohms 0 1; z2 = z2; z0 = ohms 0 1; zn = ohms 0 0; label = 65 ∷ replicate 11 32; feeder = 66 ∷ replicate 11 32; kind = k; clock = c }
@@ -53,13 +53,13 @@ j2 = ohms 0 2
 
 -- a node above; one without earth return; one whose sum is one short of too much
 abbrev up : Node
-up = node j1 j1 j1 0 1 0
+up = node j1 j1 j1 0 1 1 0
 
 abbrev up-none : Node
-up-none = node j1 j1 none 0 0 0
+up-none = node j1 j1 none 0 1 0 0
 
 abbrev up-most : Node
-up-most = node (ohms 0 4095) j1 j1 0 1 0
+up-most = node (ohms 0 4095) j1 j1 0 1 1 0
 
 -- a record judged; a network of one record without a mark, judged
 abbrev said : ℕ → Node → Step
@@ -75,32 +75,35 @@ placed r = record { nodes = table noNode []; place = r; number = 5 }
 own-small : (k c x : ℕ) → T (leb c 11) → T (leb x 4095) → OwnSmall (board k c (ohms 0 x))
 own-small k c x h h2 = record { own1 = small tt; own2 = small h2; own0 = small tt; own-n = small tt; own-clock = lit≤ h }
 
-up-small : (x x0 s : ℕ) → T (leb x 4095) → T (leb x0 4095) → UpSmall (node (ohms 0 x) j1 (ohms 0 x0) 0 s 0)
+up-small : (x x0 s : ℕ) → T (leb x 4095) → T (leb x0 4095) → UpSmall (node (ohms 0 x) j1 (ohms 0 x0) 0 1 s 0)
 up-small x x0 s h h0 = record { up1 = small h; up2 = small tt; up0 = small h0; up-turn = lit≤ tt }
 
 -- ---- the contracts
 pub no-node-not : RuledOut (no-node.Pre tt) (ever (no-node.Post tt)) (
-    tt ↛ node none none none 1 0 0  -- feeder_above_record_1
-    ∷ tt ↛ node none none none 0 0 1  -- turned_above_record_1
+    tt ↛ node none none none 1 0 0 0  -- feeder_above_record_1
+    ∷ tt ↛ node none none none 0 0 0 1  -- turned_above_record_1
+    ∷ tt ↛ node none none none 0 0 1 0  -- start_above_record_1
     ∷ [])
-no-node-not = by-equation (λ a. noNode) (λ n. list (fields n)) (λ a z e s. s) (tt, (tt, tt)) tt
+no-node-not = by-equation (λ a. noNode) (λ n. list (fields n)) (λ a z e s. s) (tt, (tt, (tt, tt))) tt
 
 pub node-over-not : RuledOut (node-over.Pre tt) (ever (node-over.Post tt)) (
-    (node (ohms 4096 0) none none 0 0 0, tt) ↛ false  -- sum_of_4096
-    ∷ (node none none (ohms 4096 0) 0 0 0, tt) ↛ false  -- z0_sum_untested
+    (node (ohms 4096 0) none none 0 0 0 0, tt) ↛ false  -- sum_of_4096
+    ∷ (node none none (ohms 4096 0) 0 1 1 0, tt) ↛ false  -- z0_sum_untested
     ∷ [])
 unfolding nodeOver Kind·open
 node-over-not = by-equation (λ a. nodeOver (a .0)) bool (λ a z e s. s) (tt, (tt, tt)) tt
 
 pub node-from-not : RuledOut (node-from.Pre tt) (ever (node-from.Post tt)) (
-    (2, (board 4 1 j1, (1, (up, tt)))) ↛ node j2 j2 j1 1 1 1  -- kind_4_goes_on
-    ∷ (2, (board 2 0 j1, (1, (up-none, tt)))) ↛ node j2 j2 j1 1 0 0  -- missing_return_is_zero
-    ∷ (2, (board 2 0 j2, (1, (up, tt)))) ↛ node j2 j2 j2 1 1 0  -- z2_of_z1
+    (2, (board 4 1 j1, (1, (up, tt)))) ↛ node j2 j2 j1 1 1 1 1  -- kind_4_goes_on
+    ∷ (2, (board 2 0 j1, (1, (up-none, tt)))) ↛ node j2 j2 j1 1 1 1 0  -- missing_return_is_zero
+    ∷ (2, (board 2 0 j2, (1, (up, tt)))) ↛ node j2 j2 j2 1 1 1 0  -- z2_of_z1
+    ∷ (2, (board 3 0 j1, (1, (up, tt)))) ↛ node j2 j2 j2 1 2 1 0  -- kind_3_heads_a_part
+    ∷ (2, (board 5 0 j1, (1, (up-none, tt)))) ↛ node j2 j2 none 1 1 0 0  -- kind_5_joins
     ∷ [])
 unfolding nodeFrom withZero Kind·open
 node-from-not =
     by-equation (λ a. nodeFrom (a .0) (a .1 .0) (a .1 .1 .0) (a .1 .1 .1 .0)) (λ n. list (fields n)) (λ a z e s. s)
-    ((own-small 4 1 1 tt tt, up-small 1 1 1 tt tt), ((own-small 2 0 1 tt tt, up-small 1 0 0 tt tt), ((own-small 2 0 2 tt tt, up-small 1 1 1 tt tt), tt))) tt
+    ((own-small 4 1 1 tt tt, up-small 1 1 1 tt tt), ((own-small 2 0 1 tt tt, up-small 1 0 0 tt tt), ((own-small 2 0 2 tt tt, up-small 1 1 1 tt tt), ((own-small 3 0 1 tt tt, up-small 1 1 1 tt tt), ((own-small 5 0 1 tt tt, up-small 1 0 0 tt tt), tt))))) tt
 
 pub earlier-not : RuledOut (earlier-at.Pre tt) (ever (earlier-at.Post tt)) (
     (3, (2, tt)) ↛ 0  -- no_feeder
@@ -111,9 +114,9 @@ earlier-not = by-equation (λ a. earlier (a .0) (a .1 .0)) (λ n. n) (λ a z e s
 
 pub step-not : RuledOut (step.Pre tt) (ever (step.Post tt)) (
     (2, (BD, (board 2 0 j1, (1, (1, (up, tt)))))) ↛ said 8 noNode  -- seven_said_eight
-    ∷ (2, (BD, (board 2 0 j1, (2, (3, (up, tt)))))) ↛ said 0 (node j2 j2 j2 0 1 0)  -- feeder_later_too
+    ∷ (2, (BD, (board 2 0 j1, (2, (3, (up, tt)))))) ↛ said 0 (node j2 j2 j2 0 1 1 0)  -- feeder_later_too
     ∷ (2, (BD, (board 2 0 j2, (2, (1, (up, tt)))))) ↛ said 11 noNode  -- ten_said_eleven
-    ∷ (2, (BD, (board 2 0 j1, (2, (1, (up-most, tt)))))) ↛ said 10 (node (ohms 0 4096) j2 j2 1 1 0)  -- eleven_said_ten
+    ∷ (2, (BD, (board 2 0 j1, (2, (1, (up-most, tt)))))) ↛ said 10 (node (ohms 0 4096) j2 j2 1 1 1 0)  -- eleven_said_ten
     ∷ [])
 unfolding stepOf earlier nodeOver nodeFrom withZero broken numberOf fedWrong Kind·open Label·open Bytes·open Refusal·open
 step-not =

@@ -1,8 +1,10 @@
 // What a board gets from its chain: nothing above record 1; a record's node from its feeder's; and no part of a sum over 4,095 (11).
+ghost use mathlib.Core.Bool.{cond};
 ghost use mathlib.Core.Path.{_≡_};
-ghost use Rattle.paper.specs.Kind.{_+Ω_, kindOf};
+ghost use lib.Dec.{eqb};
+ghost use Rattle.paper.specs.Kind.{ohms, _+Ω_, kindOf, zeroTerm};
 ghost use Rattle.paper.specs.Bounds.{AtMost};
-ghost use Rattle.node.specs.Node.{noNode, started, withZero, nodeFrom, nodeOver, OwnSmall, UpSmall};
+ghost use Rattle.node.specs.Node.{noNode, zeroed, withZero, nodeFrom, nodeOver, OwnSmall, UpSmall};
 use kind::impedance::over;
 use kind::zero::ZeroWord;
 use kind::zero::zero_term;
@@ -21,6 +23,7 @@ pub fn no_node() -> Node
         z2: zero,
         z0: zero,
         feeder: 0,
+        head: 0,
         start: 0,
         turn: 0,
     }
@@ -37,8 +40,9 @@ fn plus(a: Ohms, b: Ohms) -> Ohms
     }
 }
 
-fn started(n: Node, z0: Ohms, start: u16) -> Node
-    ensures { λ m. ⌜ m ≡ started n z0 start ⌝ }
+// A node with a zero sequence: its sum, the head of its part, and where it starts.
+fn zeroed(n: Node, z0: Ohms, head: u16, start: u16) -> Node
+    ensures { λ m. ⌜ m ≡ zeroed n z0 head start ⌝ }
 {
     let z1 = n.z1;
     let z2 = n.z2;
@@ -47,33 +51,44 @@ fn started(n: Node, z0: Ohms, start: u16) -> Node
         z2,
         z0,
         feeder: n.feeder,
+        head,
         start,
         turn: n.turn,
     }
 }
 
-// A node without zero sequence, with that of its record: one of its own, its feeder's and a term more, or none.
+// The sum of a record that goes on: its feeder's and a term more, if there is an earth return.
+fn gone_on(b: Board, up: Node) -> Ohms
+    requires { ⌜ OwnSmall b × UpSmall up ⌝ }
+    ensures { λ z. ⌜ z ≡ cond (eqb (up .start) 0) (ohms 0 0) (zeroTerm (kindOf (b .kind) .zero-seq) b +Ω up .z0) ⌝ }
+{
+    let up0 = up.z0;
+    if up.start == 0 {
+        return Ohms { r: 0, x: 0 };
+    }
+    let term = zero_term(b);
+    plus(term, up0)
+}
+
+// A node without zero sequence, with that of its record: it heads a part, with an earth return or without, or lies in its feeder's.
 fn with_zero(n: Node, r: u16, b: Board, up: Node) -> Node
     requires { ⌜ OwnSmall b × UpSmall up ⌝ }
     ensures { λ m. ⌜ m ≡ withZero n b r (kindOf (b .kind) .zero-seq) up ⌝ }
 {
     let kind = b.kind;
-    let begun = up.start;
-    let up0 = up.z0;
     match zero_word(kind) {
         ZeroWord::Starts => {
             let z0 = zero_term(b);
-            started(n, z0, r)
+            zeroed(n, z0, r, r)
         }
         ZeroWord::GoesOn => {
-            if begun == 0 {
-                return n;
-            }
-            let term = zero_term(b);
-            let z0 = plus(term, up0);
-            started(n, z0, begun)
+            let z0 = gone_on(b, up);
+            zeroed(n, z0, up.head, up.start)
         }
-        ZeroWord::Blocked => n,
+        ZeroWord::Blocked => {
+            let z0 = Ohms { r: 0, x: 0 };
+            zeroed(n, z0, r, 0)
+        }
     }
 }
 
@@ -94,6 +109,7 @@ pub(crate) fn node_from(r: u16, b: Board, feeder: u16, up: Node) -> Node
         z2,
         z0,
         feeder,
+        head: 0,
         start: 0,
         turn,
     };

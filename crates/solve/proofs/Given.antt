@@ -13,6 +13,7 @@ use Rattle.paper.specs.Refusal.{refusal}
 use Rattle.paper.specs.Phase.{Asked, asked, theD}
 use Rattle.paper.specs.Amps.{ampsOver, ampsUnder, amps}
 use Rattle.paper.specs.Answer.{numbers}
+use Rattle.follows.proofs.Sound.{Z0-small}
 use Rattle.follows.proofs.Given.{question, network, z1-not-zero, z2-not-zero}
 use Rattle.amps.proofs.Exact.{factorOf, voltsSquare, amps-exact, amps-only}
 use Rattle.fits.proofs.Sizes.{Ranged}
@@ -31,12 +32,12 @@ module _ (net flt : List ℕ) (room : ℕ) (accepted : refusal net flt room ≡ 
   -- the parts of every sum are at most 4,095, and of Zf 1,365
   pub sums-small : (j : ℕ) → 1 ≤ j → j ≤ length bs → SumsSmall q j
   unfolding asked
-  sums-small j h l = let s = network net flt room accepted .sound j h l in record { sum1 = s .Z1-small; sum2 = s .Z2-small; sum0 = s .Z0-small }
+  sums-small j h l = let s = network net flt room accepted .sound j h l in record { sum1 = s .Z1-small; sum2 = s .Z2-small; sum0 = Z0-small (boardsOf net) (network net flt room accepted .sound) j h l }
 
   pub ranged : Ranged (Z1 bs k) (Z2 bs k) (Z0 bs k) (faultOf flt .zf)
   ranged =
       let s = network net flt room accepted .sound k (question net flt room accepted .k-from) (question net flt room accepted .k-to) in
-      record { upto1 = s .Z1-small; upto2 = s .Z2-small; upto0 = s .Z0-small; uptof = question net flt room accepted .zf-small }
+      record { upto1 = s .Z1-small; upto2 = s .Z2-small; upto0 = Z0-small bs (network net flt room accepted .sound) k (question net flt room accepted .k-from) (question net flt room accepted .k-to); uptof = question net flt room accepted .zf-small }
 
   -- ---- "That every number fits is proved"
   pub all-fit : Smalls (2 ^ 62) (numbers q)

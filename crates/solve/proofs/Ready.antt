@@ -8,7 +8,7 @@ use lib.ListN.{length}
 use Rattle.paper.specs.File.{boardsOf}
 use Rattle.paper.specs.Refusal.{refusal}
 use Rattle.paper.specs.Phase.{asked}
-use Rattle.follows.proofs.Sound.{turn-small}
+use Rattle.follows.proofs.Sound.{Z0-small, turn-small}
 use Rattle.follows.proofs.Given.{question, network, z1-not-zero, z2-not-zero}
 use Rattle.answer.specs.Ready.{SumsIn, Ready}
 
@@ -19,7 +19,7 @@ module _ (net flt : List ℕ) (room : ℕ) (accepted : refusal net flt room ≡ 
   sums-are-in j h l =
       let g = network net flt room accepted in
       let s = g .sound j h l in
-      record { sum1 = s .Z1-small; sum2 = s .Z2-small; sum0 = s .Z0-small; turns = omega (arith, turn-small (boardsOf net) (g .sound) j l, g .count, g .head-in .boards-range .1) }
+      record { sum1 = s .Z1-small; sum2 = s .Z2-small; sum0 = Z0-small (boardsOf net) (g .sound) j h l; turns = omega (arith, turn-small (boardsOf net) (g .sound) j l, g .count, g .head-in .boards-range .1) }
 
   pub accepted-ready : Ready (asked net flt)
   unfolding asked

@@ -24,7 +24,7 @@ pub fn solve(net: &[u8], flt: &[u8], buffer: &mut [i64]) -> Answer
     let boards = network.boards;
     let nodes = network.nodes;
     let n = head.boards;
-    let question = ask(flt, boards, nodes, n as usize, buffer.len());
+    let question = ask(flt, boards, n as usize, buffer.len());
     let heard = question.outcome;
     if let Outcome::Refused(why) = heard {
         return refused(why);

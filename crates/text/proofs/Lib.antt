@@ -1,7 +1,6 @@
 -- 01's printed example
 pub mod Example
 mod Tops
-mod Numbered
 mod Lying
 -- no text is longer
 pub mod Most

@@ -1,7 +1,7 @@
 -- The text of an answer, by the answer's number. Assumes nothing.
 use mathlib.Core.List.{List, _++_}
 use mathlib.Core.Option.{Option, none, some}
-use mathlib.Core.Path.{_≡_, refl, sym, ap, _∙_}
+use mathlib.Core.Path.{_≡_, sym, ap, _∙_}
 use Prim.Native.Nat.{ℕ, _+_, _*_, _≤_}
 use native.Mathlib.Omega.{arith}
 use lib.IntN.{ℤ}
@@ -19,7 +19,7 @@ use Rattle.lines.specs.Boards.{boardsLying}
 use Rattle.follows.proofs.Laid.{behind-top}
 use Rattle.text.specs.Text.{topLines, boardsLines, acceptedText, textOf, room, printed}
 use Rattle.text.specs.Lying.{topLying, Answered}
-use Rattle.text.proofs.Numbered.{refusal-number}
+use Rattle.follows.proofs.Numbered.{accepted-by}
 use Rattle.text.proofs.Lying.{top-lying, boards-lying, numbers-size}
 
 module _ (net flt : List ℕ) {a : Answer} (v : a ≡ verdict net flt room) where
@@ -37,15 +37,9 @@ module _ (net flt : List ℕ) {a : Answer} (v : a ≡ verdict net flt room) wher
   refused-text h = refused-by (refusal net flt room) v h
 
   -- ---- accepted
-  accepted-by : (o : Option Refusal) → refusal net flt room ≡ o → a ≡ answer o q → a .number ≡ 0 → o ≡ none
-  unfolding answer refused
-  accepted-by none f e z = refl
-  accepted-by (some r) f e z = absurd (omega (arith, refusal-number net flt room f, z, ap (λ (x : Answer). x .number) e))
-
   module _ (z : a .number ≡ 0) where
     taken : refusal net flt room ≡ none
-    unfolding verdict q
-    taken = accepted-by (refusal net flt room) refl v z
+    taken = accepted-by net flt room (ap (λ (x : Answer). x .number) (sym v) ∙ z)
 
     is-accepted : a ≡ accepted q
     unfolding verdict answer q

@@ -85,7 +85,7 @@ module _ (net flt : List ℕ) where
         (λ _. omega arith),
         λ s. let e = same-by (length flt) 20 s in
             let l : 20 ≤ length flt = omega arith in
-            ((λ _. l), λ _. ((λ _. l), λ _. ((λ _. l), λ _. ((λ _. l), λ _. ((λ _. l), λ _. ((λ _. l), λ _. ((λ _. omega arith), λ _. tt))))))),
+            ((λ _. l), λ _. ((λ _. l), λ _. ((λ _. l), λ _. ((λ _. l), λ _. ((λ _. l), λ _. ((λ _. omega arith), λ _. tt)))))),
       )
 
   refusal-in : (room : ℕ) → Shows In (refusal net flt room)

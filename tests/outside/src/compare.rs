@@ -8,7 +8,7 @@ use crate::stream::write::{answer as written, WriteAnswer};
 use crate::stream::Answer;
 use crate::tally::Tally;
 use crate::write::readback;
-use crate::{laws, solve};
+use crate::{crew, laws, solve};
 
 /// Networks up to this size are always solved by elimination too, one in four of the larger.
 const SMALL: u32 = 12;
@@ -31,6 +31,7 @@ impl From<String> for Finding {
 pub enum Witness {
     Laws,
     Solve,
+    Crew,
     ReadBack,
 }
 
@@ -59,6 +60,8 @@ fn check_solved(
             tally.solved += 1;
             solve::check(&case.net, &case.fault, &got.buffer)?;
         }
+        let seen = crew::check(&case.net, &case.fault, &got.buffer, got.verdict.amps)?;
+        tally.crew += u64::from(seen);
     }
     // Of this program alone: what its reader takes, its writer gives again.
     let copied = readback::copied(&case.net).map_err(Finding::Own)?;
@@ -88,6 +91,9 @@ pub fn alone(case: &Case, got: &Answer) -> Vec<Witness> {
             }
             if solve::check(&case.net, &case.fault, &got.buffer).is_err() {
                 seen.push(Witness::Solve);
+            }
+            if crew::check(&case.net, &case.fault, &got.buffer, got.verdict.amps).is_err() {
+                seen.push(Witness::Crew);
             }
         }
         (Case::Write(case), Answer::Write(got)) if readback::check(case, got).is_err() => {

@@ -1,5 +1,7 @@
 //! The paper's figures, worked through once more, and its printed example.
 
+mod unearthed;
+
 use crate::compare::same;
 use crate::make::labels::label;
 use crate::make::model::Rec;
@@ -7,7 +9,7 @@ use crate::make::SolveCase;
 use crate::paper::Paper;
 use crate::ring::Num;
 use crate::stream::solve::{answer, filled, SolveAnswer};
-use crate::{laws, solve, table, write};
+use crate::{crew, laws, solve, table, write};
 
 /// The text the example program prints (also shown by `replay`).
 pub fn text(case: &SolveCase, a: &SolveAnswer) -> String {
@@ -109,8 +111,14 @@ impl Run {
             let right = a.buffer[*place..place + 4] == n[..];
             self.see(right, &format!("{name}: place {place} {n:?}"));
         }
-        let lawful = laws::check(&c.net, &c.fault, &a.buffer, v.amps).is_ok()
-            && solve::check(&c.net, &c.fault, &a.buffer).is_ok();
+        self.lawful(&name, &c, &a);
+    }
+
+    fn lawful(&mut self, name: &str, c: &SolveCase, a: &SolveAnswer) {
+        let amps = a.verdict.amps;
+        let lawful = laws::check(&c.net, &c.fault, &a.buffer, amps).is_ok()
+            && solve::check(&c.net, &c.fault, &a.buffer).is_ok()
+            && crew::check(&c.net, &c.fault, &a.buffer, amps).is_ok();
         self.see(lawful, &format!("{name}: laws hold, solved again"));
     }
 
@@ -264,7 +272,7 @@ fn printed(run: &mut Run) {
 /// The refusal table, by hand.
 fn by_hand(run: &mut Run) {
     let lines = table::HEAD.iter().chain(&table::RECORDS);
-    for line in lines.chain(&table::FAULTS) {
+    for line in lines.chain(&table::FAULTS).chain(&table::NO_RETURN) {
         let mut net = network(230, 1000, &paper_records());
         let mut hall = fault("HALL", 1, 0, [0, 0]);
         line.net.iter().for_each(|&(at, byte)| net[at] = byte);
@@ -318,6 +326,7 @@ pub fn all() -> bool {
     by_hand(&mut run);
     printed(&mut run);
     others(&mut run);
+    unearthed::by_hand(&mut run);
     write::table::by_hand(&mut run);
     println!("{} of {} figures agree", run.agree, run.all);
     run.agree == run.all

@@ -5,6 +5,7 @@
 //! voltage on the way down and its current on the way up, so nothing is referred to the fault's
 //! side by the paper's own formula; the two differ by a turn, which is no remainder.
 
+use crate::paper::Premise;
 use crate::plan::{plan, Plan};
 use crate::ring::Num;
 
@@ -24,7 +25,7 @@ pub fn passing(sequence: usize, clock: i64) -> i64 {
     [0, -clock, clock][sequence]
 }
 
-fn phases(numbers: &[i64]) -> Triple {
+pub fn phases(numbers: &[i64]) -> Triple {
     std::array::from_fn(|p| Num(std::array::from_fn(|i| numbers[4 * p + i].into())))
 }
 
@@ -57,6 +58,17 @@ fn values(plan: &Plan, buffer: &[i64]) -> Option<Values> {
 
 /// All laws; what is broken, if anything.
 pub fn check(net: &[u8], fault: &[u8], buffer: &[i64], amps: u64) -> Result<(), String> {
+    given(Premise::AsWritten, net, fault, buffer, amps)
+}
+
+/// The same under some reading of demand 3's premise.
+pub fn given(
+    premise: Premise,
+    net: &[u8],
+    fault: &[u8],
+    buffer: &[i64],
+    amps: u64,
+) -> Result<(), String> {
     let plan = plan(net, fault).ok_or("laws: bytes that can't have been accepted")?;
     let x = values(&plan, buffer).ok_or("laws: buffer too short")?;
     if x.d <= 0 {
@@ -67,6 +79,10 @@ pub fn check(net: &[u8], fault: &[u8], buffer: &[i64], amps: u64) -> Result<(), 
             ohm(&plan, &x, r, s)?;
         }
         ohm_zero(&plan, &x, r)?;
+        if plan.given_zero(premise, r) {
+            let zero = x.v[r][0] == Num::ZERO;
+            need(zero, "voltage without earth return", r, 0)?;
+        }
         for s in 0..3 {
             node(&plan, &x, r, s)?;
         }
@@ -100,7 +116,6 @@ fn ohm_zero(plan: &Plan, x: &Values, r: usize) -> Result<(), String> {
     let (v, i) = (x.v[r][0], x.i[r][0]);
     if !record.earthed {
         need(i == Num::ZERO, "current without earth return", r, 0)?;
-        need(v == Num::ZERO, "voltage without earth return", r, 0)?;
     }
     let feeder = match (record.kind, record.up) {
         (1 | 5, _) => return Ok(()),

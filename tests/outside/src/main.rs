@@ -1,6 +1,7 @@
 //! A second hand's reading of the paper, to test the proved program from outside. See README.md.
 
 mod compare;
+mod crew;
 mod edges;
 mod faults;
 mod field;
@@ -227,6 +228,9 @@ fn replay_solve(case: &make::SolveCase, due: &SolveAnswer) -> Outcome {
         laws::check(&case.net, &case.fault, &due.buffer, due.verdict.amps)?;
         solve::check(&case.net, &case.fault, &due.buffer)?;
         println!("laws hold, and give these numbers only");
+        if crew::check(&case.net, &case.fault, &due.buffer, due.verdict.amps)? {
+            println!("and the crew sees what it should");
+        }
     }
     Ok(())
 }

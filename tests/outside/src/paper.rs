@@ -14,6 +14,67 @@ pub enum WriterTest {
     Room,
 }
 
+/// What W0 is in a kind 3 fault without earth return.
+#[derive(Clone, Copy)]
+pub enum Rise {
+    /// The faulted board's W1: the one that the paper means.
+    FaultedW1,
+    /// Each board's own.
+    OwnW1,
+    MinusFaultedW1,
+    One,
+}
+
+/// earth faults, kinds 1 and 3, at a board without earth return.
+#[derive(Clone, Copy)]
+pub struct Unearthed {
+    /// They are answered: 18 is withdrawn.
+    pub answered: bool,
+    /// Want of room is still 19; 18 is never used again.
+    pub room_number: u32,
+    /// Zf has no effect, and 17 asks for it all the same.
+    pub zf_tested: bool,
+    /// These rules hold without earth return only; otherwise at every board.
+    pub no_return_only: bool,
+    /// The fault kinds they are for.
+    pub faults: &'static [u8],
+    /// Records of these kinds join their board to its feeder ..
+    pub joining: &'static [u8],
+    /// .. for one who comes from below, for one who comes from above, and on from there.
+    pub joins_up: bool,
+    pub joins_down: bool,
+    pub joins_far: bool,
+    /// W0 changes at the joined boards only, not at all boards without earth return.
+    pub joined_only: bool,
+    /// W0 of kind 1.
+    pub w0: i128,
+    /// W0 of kind 3.
+    pub rise: Rise,
+    /// W0 is of the odd phase, as W1 and W2 are, and is turned with them where it is shown.
+    pub w0_turned: bool,
+    /// In kind 1 no current flows, not even through Zf.
+    pub dead: bool,
+    /// How often Zf counts in kind 3 (0).
+    pub zf_times: i128,
+    /// Kind 3's amps are those of the earth current still, not kind 2's.
+    pub earth_amps: bool,
+}
+
+/// Where demand 3 is given that a board without earth return has zero-sequence voltage zero. Only
+/// `laws` and `solve` ask.
+#[derive(Clone, Copy)]
+pub enum Premise {
+    /// With an earth fault without earth return not at k and the boards joined to it.
+    AsWritten,
+    /// As before R-2.
+    Everywhere,
+    Nowhere,
+    /// Left out at k, kept at the boards joined to it.
+    NotAtK,
+    /// Left out at k and the boards joined to it, whatever the fault.
+    AnyFault,
+}
+
 #[derive(Clone, Copy)]
 pub struct Paper {
     /// How often zn counts in a zero-sequence term (3).
@@ -56,6 +117,10 @@ pub struct Paper {
     pub writer_tests: [WriterTest; 3],
     /// Bytes that an output must have beyond the file.
     pub spare_room: usize,
+    /// Kind 5 keeps zero sequence out.
+    pub kind5_blocks: bool,
+    ///
+    pub unearthed: Unearthed,
 }
 
 impl Paper {
@@ -80,13 +145,34 @@ impl Paper {
         most_boards: 256,
         writer_tests: [WriterTest::Head, WriterTest::Boards, WriterTest::Room],
         spare_room: 0,
+        kind5_blocks: true,
+        unearthed: Unearthed {
+            answered: true,
+            room_number: 19,
+            zf_tested: true,
+            no_return_only: true,
+            faults: &[1, 3],
+            joining: &[2, 3],
+            joins_up: true,
+            joins_down: true,
+            joins_far: true,
+            joined_only: true,
+            w0: -1,
+            rise: Rise::FaultedW1,
+            w0_turned: true,
+            dead: true,
+            zf_times: 0,
+            earth_amps: true,
+        },
     };
 
-    /// The rules from `first` to `last` in the order they are tested.
+    /// The rules from `first` to `last` in the order they are tested. 18 is withdrawn, so the
+    /// next after 17 is 19.
     pub fn order(&self, first: u32, last: u32) -> Vec<u32> {
-        let mut rules: Vec<u32> = (first..=last).collect();
-        if (first..last).contains(&self.exchanged) {
-            let i = (self.exchanged - first) as usize;
+        let stands = |&rule: &u32| rule != 18 || !self.unearthed.answered;
+        let mut rules: Vec<u32> = (first..=last).filter(stands).collect();
+        let at = rules.iter().position(|&rule| rule == self.exchanged);
+        if let Some(i) = at.filter(|i| i + 1 < rules.len()) {
             rules.swap(i, i + 1);
         }
         rules

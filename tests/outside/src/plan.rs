@@ -1,7 +1,9 @@
-//! A second reading of accepted bytes, for `laws` and `solve` only: it shares nothing with `judge`.
+//! A second reading of accepted bytes, for `laws`, `solve` and `crew` only: it shares nothing with
+//! `judge`.
 //!
 //! Labels are looked for from the front; turn and earth return are carried from feeder to board.
 
+use crate::paper::Premise;
 use crate::ring::Num;
 
 pub struct Record {
@@ -23,6 +25,48 @@ pub struct Plan {
     pub kind: u8,
     pub phase: usize,
     pub zf: Num,
+    /// k and the boards joined to it by kinds 2 and 3.
+    pub joined: Vec<bool>,
+}
+
+impl Plan {
+    /// The two faults of R-2: kinds 1 and 3 without earth return.
+    pub fn without_return(&self) -> bool {
+        matches!(self.kind, 1 | 3) && !self.records[self.k].earthed
+    }
+
+    /// Whether demand 3 is given that this board's zero-sequence voltage is zero: a board with no
+    /// earth return, but for those that R-2 leaves out.
+    pub fn given_zero(&self, premise: Premise, r: usize) -> bool {
+        let left_out = match premise {
+            Premise::AsWritten => self.without_return() && self.joined[r],
+            Premise::Everywhere => false,
+            Premise::Nowhere => true,
+            Premise::NotAtK => self.without_return() && r == self.k,
+            Premise::AnyFault => self.joined[r],
+        };
+        !self.records[r].earthed && !left_out
+    }
+}
+
+/// A record of kind 2 or 3 with one end among the joined boards brings the other in. All records
+/// are gone through until none brings a board more.
+fn joined(records: &[Record], k: usize) -> Vec<bool> {
+    let mut in_it = vec![false; records.len()];
+    in_it[k] = true;
+    let mut more = true;
+    while more {
+        more = false;
+        for (r, record) in records.iter().enumerate() {
+            if let (2 | 3, Some(u)) = (record.kind, record.up) {
+                more |= in_it[r] != in_it[u];
+                let either = in_it[r] || in_it[u];
+                in_it[r] = either;
+                in_it[u] = either;
+            }
+        }
+    }
+    in_it
 }
 
 fn pair(b: &[u8]) -> Num {
@@ -49,11 +93,13 @@ pub fn plan(net: &[u8], fault: &[u8]) -> Option<Plan> {
         records.push(record);
     }
     let word = |i: usize| u128::from(net[i]) + 256 * u128::from(net[i + 1]);
+    let k = place_of(net, &fault[2..14])?;
     Some(Plan {
         volts: word(2),
         unit: word(4),
+        joined: joined(&records, k),
         records,
-        k: place_of(net, &fault[2..14])?,
+        k,
         kind: fault[14],
         phase: usize::from(fault[15]),
         zf: pair(&fault[16..]),

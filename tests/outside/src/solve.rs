@@ -7,6 +7,7 @@
 
 use crate::field::{self, add, inverse, mul, sub};
 use crate::laws::{passing, takes_from_feeder};
+use crate::paper::Premise;
 use crate::plan::{plan, Plan};
 use crate::ring::Num;
 use std::collections::BTreeMap;
@@ -52,7 +53,6 @@ fn ohm_rows(plan: &Plan, r: usize, rows: &mut Vec<Row>) {
     }
     if !record.earthed {
         rows.push(zero(vec![(amp(r, 0), ONE)]));
-        rows.push(zero(vec![(volt(r, 0), ONE)]));
     }
 }
 
@@ -105,10 +105,13 @@ fn connection_rows(plan: &Plan) -> Vec<Row> {
     list.into_iter().map(zero).collect()
 }
 
-fn system(plan: &Plan) -> Vec<Row> {
+fn system(plan: &Plan, premise: Premise) -> Vec<Row> {
     let mut rows = Vec::new();
     for r in 0..plan.records.len() {
         ohm_rows(plan, r, &mut rows);
+        if plan.given_zero(premise, r) {
+            rows.push(zero(vec![(volt(r, 0), ONE)]));
+        }
         node_rows(plan, r, &mut rows);
     }
     rows.extend(connection_rows(plan));
@@ -151,9 +154,9 @@ fn less(row: &Sparse, factor: u64, other: &Sparse) -> Sparse {
     out
 }
 
-/// Forward elimination; one row for each unknown, beginning there. None if some unknown is left
-/// free, or if a row is left that says 0 = something.
-fn eliminate(rows: Vec<Sparse>, unknowns: usize) -> Option<Vec<Sparse>> {
+/// Forward elimination; one row for each unknown, beginning there. Or what is wrong: some unknown is
+/// left free, or a row is left that says 0 = something.
+fn eliminate(rows: Vec<Sparse>, unknowns: usize) -> Result<Vec<Sparse>, &'static str> {
     let mut waiting: Vec<Vec<Sparse>> = vec![Vec::new(); unknowns + 1];
     for row in rows.into_iter().filter(|row| !row.is_empty()) {
         waiting[row[0].0].push(row);
@@ -161,7 +164,8 @@ fn eliminate(rows: Vec<Sparse>, unknowns: usize) -> Option<Vec<Sparse>> {
     let mut done = Vec::with_capacity(unknowns);
     for c in 0..unknowns {
         let mut list = std::mem::take(&mut waiting[c]);
-        let shortest = (0..list.len()).min_by_key(|&i| list[i].len())?;
+        let shortest = (0..list.len()).min_by_key(|&i| list[i].len());
+        let shortest = shortest.ok_or("leave a value open")?;
         let pivot = list.swap_remove(shortest);
         let scale = if list.is_empty() {
             0
@@ -176,7 +180,10 @@ fn eliminate(rows: Vec<Sparse>, unknowns: usize) -> Option<Vec<Sparse>> {
         }
         done.push(pivot);
     }
-    waiting[unknowns].is_empty().then_some(done)
+    match waiting[unknowns].is_empty() {
+        true => Ok(done),
+        false => Err("contradict each other"),
+    }
 }
 
 fn back(rows: &[Sparse], unknowns: usize) -> Vec<u64> {
@@ -204,9 +211,14 @@ fn phases(x: &[u64], a: u64, d: u64) -> [u64; 3] {
 
 /// Solves the laws and holds the solution against every number of the buffer.
 pub fn check(net: &[u8], fault: &[u8], buffer: &[i64]) -> Result<(), String> {
+    given(Premise::AsWritten, net, fault, buffer)
+}
+
+/// The same under some reading of demand 3's premise.
+pub fn given(premise: Premise, net: &[u8], fault: &[u8], buffer: &[i64]) -> Result<(), String> {
     let plan = plan(net, fault).ok_or("solve: bytes that can't have been accepted")?;
     let n = plan.records.len();
-    let rows = system(&plan);
+    let rows = system(&plan, premise);
     let unknowns = 6 * n + 3;
     let shown: Vec<Num> = buffer[1..13 + 24 * n]
         .chunks(4)
@@ -214,9 +226,8 @@ pub fn check(net: &[u8], fault: &[u8], buffer: &[i64]) -> Result<(), String> {
         .collect();
     for w in field::roots() {
         let images = rows.iter().map(|row| image(row, unknowns, w)).collect();
-        let Some(steps) = eliminate(images, unknowns) else {
-            return Err("solve: the laws have no single solution".into());
-        };
+        let steps =
+            eliminate(images, unknowns).map_err(|what| format!("solve: the laws {what}"))?;
         let x = back(&steps, unknowns);
         let (d, a) = (field::whole(buffer[0].into()), field::pow(w, 4));
         // Fault currents come first in the buffer and last among the unknowns.

@@ -17,12 +17,14 @@ pub struct Line {
     pub room: usize,
     /// Number, place, whose, start, length.
     pub due: [u32; 5],
+    /// A current flows to earth: there are amps.
+    pub flows: bool,
 }
 
 impl Line {
     pub fn agrees(&self, v: &Verdict) -> bool {
         let n = if self.due[0] == 0 { 3 } else { 0 };
-        let amps_fit = (v.amps > 0) == (n > 0);
+        let amps_fit = (v.amps > 0) == self.flows;
         let got = [v.number, v.place, v.whose, v.start, v.length];
         got == self.due && v.boards == n && amps_fit
     }
@@ -37,6 +39,7 @@ const fn net(name: &'static str, net: Edits, due: [u32; 5]) -> Line {
         fault_length: 20,
         room: 85,
         due,
+        flows: due[0] == 0,
     }
 }
 
@@ -69,8 +72,21 @@ const fn room(name: &'static str, room: usize, due: [u32; 5]) -> Line {
 }
 
 const HALL: [u32; 5] = [0, 3, 1, 96, 44];
-/// Source unearthed: kind 1, x0 and xn zero. BOOTH-WEST-1 loses its earth return, HALL keeps it.
+/// Source unearthed: kind 1, x0 and xn zero. GEN and BOOTH-WEST-1 lose their earth return, HALL keeps
+/// its own.
 const UNEARTHED: Edits = &[(34, 1), (46, 0), (50, 0)];
+
+/// The fault brought to a board without earth return: no amps.
+const fn no_return(name: &'static str, fault: Edits, room: usize, due: [u32; 5]) -> Line {
+    Line {
+        fault,
+        room,
+        flows: false,
+        ..net(name, UNEARTHED, due)
+    }
+}
+
+const GEN: [u32; 5] = [0, 1, 1, 8, 44];
 const BOOTH: Edits = &[
     (2, b'B'),
     (3, b'O'),
@@ -85,6 +101,29 @@ const BOOTH: Edits = &[
     (12, b'-'),
     (13, b'1'),
 ];
+
+/// The fault at GEN, of a kind and phase, with the low and high byte of each of Zf's parts.
+macro_rules! at_gen {
+    ($kind:literal, $phase:literal, $zf:expr) => {
+        &[
+            (2, b'G'),
+            (3, b'E'),
+            (4, b'N'),
+            (5, b' '),
+            (14, $kind),
+            (15, $phase),
+            (16, $zf[0]),
+            (17, $zf[1]),
+            (18, $zf[2]),
+            (19, $zf[3]),
+        ]
+    };
+}
+
+/// 1,365 and 1,366 in x.
+const MOST: [u8; 4] = [0, 0, 0x55, 5];
+const OVER: [u8; 4] = [0, 0, 0x56, 5];
+const NONE: [u8; 4] = [0; 4];
 
 pub const HEAD: [Line; 12] = [
     net("taken as it stands", &[], HALL),
@@ -138,7 +177,7 @@ pub const RECORDS: [Line; 20] = [
     net("taken: Z0 4,094", &[(138, 0x4e), (139, 5)], HALL),
 ];
 
-pub const FAULTS: [Line; 19] = [
+pub const FAULTS: [Line; 17] = [
     fault_cut(0, [12, 0, 2, 0, 0]),
     fault_cut(19, [12, 0, 2, 0, 19]),
     fault_cut(21, [12, 0, 2, 0, 21]),
@@ -152,17 +191,32 @@ pub const FAULTS: [Line; 19] = [
     fault("16: kind 0", &[(14, 0), (15, 1)], [16, 0, 2, 0, 20]),
     fault("17: r 1,366", &[(16, 0x56), (17, 5)], [17, 0, 2, 0, 20]),
     fault("taken: x 1,365", &[(18, 0x55), (19, 5)], HALL),
-    Line {
-        fault: BOOTH,
-        ..net("18: no earth return", UNEARTHED, [18, 2, 2, 0, 20])
-    },
     net("taken: kind 4 starts afresh", UNEARTHED, HALL),
-    Line {
-        fault: BOOTH,
-        room: 0,
-        ..net("18 before 19", UNEARTHED, [18, 2, 2, 0, 20])
-    },
     room("19: 84 numbers", 84, [19, 0, 2, 0, 0]),
     room("19: none", 0, [19, 0, 2, 0, 0]),
     room("taken: 86 numbers", 86, HALL),
+];
+
+/// 18 is withdrawn: what is asked of an earth fault without earth return is 12 to 17, then 19.
+#[rustfmt::skip]
+pub const NO_RETURN: [Line; 18] = [
+    // These two were 18.
+    no_return("no return, taken: BOOTH-WEST-1", BOOTH, 85, [0, 2, 1, 52, 44]),
+    no_return("no return, 19: BOOTH-WEST-1", BOOTH, 0, [19, 0, 2, 0, 0]),
+    no_return("no return, taken: kind 1", at_gen!(1, 0, NONE), 85, GEN),
+    no_return("no return, taken: kind 1, phase c", at_gen!(1, 2, NONE), 86, GEN),
+    no_return("no return, taken: kind 3", at_gen!(3, 0, NONE), 85, GEN),
+    no_return("no return, taken: kind 3, phase b", at_gen!(3, 1, NONE), 300, GEN),
+    no_return("no return, taken: x 1,365", at_gen!(1, 1, MOST), 85, GEN),
+    no_return("no return, taken: x 1,365, kind 3", at_gen!(3, 2, MOST), 85, GEN),
+    no_return("no return, 17: x 1,366", at_gen!(1, 0, OVER), 85, [17, 0, 2, 0, 20]),
+    no_return("no return, 17: x 1,366, kind 3", at_gen!(3, 0, OVER), 85, [17, 0, 2, 0, 20]),
+    no_return("no return, 17 before 19", at_gen!(1, 0, OVER), 0, [17, 0, 2, 0, 20]),
+    no_return("no return, 16: phase 3", at_gen!(1, 3, OVER), 0, [16, 0, 2, 0, 20]),
+    no_return("no return, 15: kind 5", at_gen!(5, 0, NONE), 85, [15, 0, 2, 0, 20]),
+    no_return("no return, 19: 84 numbers", at_gen!(1, 0, NONE), 84, [19, 0, 2, 0, 0]),
+    no_return("no return, 19: 84 numbers, kind 3", at_gen!(3, 0, NONE), 84, [19, 0, 2, 0, 0]),
+    no_return("no return, 19: none", at_gen!(1, 0, MOST), 0, [19, 0, 2, 0, 0]),
+    no_return("no return, 19: 13 numbers", at_gen!(3, 1, NONE), 13, [19, 0, 2, 0, 0]),
+    Line { fault_length: 19, ..no_return("no return, 12: 19 bytes", at_gen!(1, 0, NONE), 0, [12, 0, 2, 0, 19]) },
 ];

@@ -1,5 +1,6 @@
 //! What the cases have met: every rule, every kind of fault, every edge of every range.
 
+use crate::edges::unearthed::{around, Around};
 use crate::edges::Edges;
 use crate::judge::Verdict;
 use crate::make::{SolveCase, WriteCase};
@@ -42,14 +43,50 @@ impl Outcomes {
     }
 }
 
+/// Accepted earth faults without earth return.
+#[derive(Default)]
+struct WithoutReturn {
+    /// Kinds 1 and 3, by phase.
+    by_phase: [[u64; 3]; 2],
+    /// How many have joined boards there, and other parts without earth return.
+    above: u64,
+    below: u64,
+    beside: u64,
+    other_parts: u64,
+}
+
+impl WithoutReturn {
+    fn count(&mut self, fault: &[u8], a: &Around) {
+        self.by_phase[usize::from(fault[14] / 2)][usize::from(fault[15])] += 1;
+        self.above += u64::from(a.above > 0);
+        self.below += u64::from(a.below > 0);
+        self.beside += u64::from(a.beside > 0);
+        self.other_parts += u64::from(a.other_parts > 0);
+    }
+
+    fn print(&self) {
+        let all: u64 = self.by_phase.iter().flatten().sum();
+        println!("  without earth return, kinds 1 and 3: {all}");
+        for (kind, by_phase) in ["1", "3"].iter().zip(&self.by_phase) {
+            println!("    fault kind {kind}: phases a, b, c {by_phase:?}");
+        }
+        let (above, below, beside) = (self.above, self.below, self.beside);
+        println!("    boards joined above k {above}, below {below}, beside {beside}");
+        println!("    other parts without earth return {}", self.other_parts);
+    }
+}
+
 #[derive(Default)]
 pub struct Tally {
     to_solve: Outcomes,
     to_write: Outcomes,
     /// By fault kind and phase.
     accepted: [[u64; 3]; 4],
+    without_return: WithoutReturn,
     pub laws: u64,
     pub solved: u64,
+    /// Answers held against what the crew sees.
+    pub crew: u64,
     /// Write answers held against the reader.
     pub read_back: u64,
     /// Networks that were read and written again.
@@ -62,9 +99,15 @@ impl Tally {
         let last = case.net.len().saturating_sub(8) / 44;
         self.to_solve.count(v.number, v.place, last);
         self.edges.look_solved(case, v);
+        let (f, no_return) = (&case.fault, around(case, v));
+        if let Some(a) = &no_return {
+            self.edges.look_unearthed(case, v, a);
+        }
         if v.number == 0 {
-            let f = &case.fault;
             self.accepted[usize::from(f[14])][usize::from(f[15])] += 1;
+            no_return
+                .iter()
+                .for_each(|a| self.without_return.count(f, a));
         }
     }
 
@@ -75,7 +118,8 @@ impl Tally {
     }
 
     pub fn print(&self) {
-        let rules: Vec<u32> = (0..20).collect();
+        // 18 is withdrawn.
+        let rules: Vec<u32> = (0..20).filter(|&rule| rule != 18).collect();
         self.to_solve.print("solve", &rules);
         self.to_write
             .print("write", &[0, 3, 6, 7, 8, 9, 10, 11, 20]);
@@ -86,8 +130,11 @@ impl Tally {
         for (kind, by_phase) in self.accepted.iter().enumerate() {
             println!("  fault kind {kind}: phases a, b, c {by_phase:?}");
         }
-        let (laws, again) = (self.laws, self.solved);
-        println!("  laws held {laws} times, solved again {again} times");
+        self.without_return.print();
+        let (laws, again, crew) = (self.laws, self.solved, self.crew);
+        println!(
+            "  laws held {laws} times, solved again {again} times, seen as a crew {crew} times"
+        );
         let taken = self.to_write.rules[0];
         println!("write: accepted {taken}, refused {}", write - taken);
         println!("  held against the reader {} times", self.read_back);

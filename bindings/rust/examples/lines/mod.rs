@@ -24,10 +24,15 @@ fn print_accepted(a: &Answer, network: &[u8], fault: &[u8], x: &[i64]) {
     }
 }
 
+/// What a number says.
+pub fn sentence(number: u8) -> &'static str {
+    Outcome::from_number(number).map_or("no answer has this number", Outcome::sentence)
+}
+
 /// What a refusal's number says goes to standard error.
 pub fn print_refused(number: u8, place: u16) {
     println!("REFUSED {number} {place}");
-    eprintln!("{}", Outcome::from_number(number).map_or("no answer has this number", Outcome::sentence));
+    eprintln!("{}", sentence(number));
 }
 
 pub fn print_answer(a: &Answer, network: &[u8], fault: &[u8], numbers: &[i64]) {

@@ -1,12 +1,12 @@
 -- `answer::answer` meets its contract: D and the currents in front, and the boards behind them. Assumes nothing.
-use mathlib.Core.Path.{_≡_, refl, sym, ap, _∙_}
+use mathlib.Core.Path.{refl}
 use native.Mathlib.Omega.{arith}
 use borrow.Author.Needs.{needs}
 use lib.Seq.{length-take-le}
 use mir.Syntax.{w64}
 use mir.Facts.{toZ-ofZ}
 use Rattle.answer.proofs.Boards.{fault-small}
-use Rattle.answer.proofs.Whole.{room-stays, earlier-all, passing, whole, in-range, k-in, faulted-good, d-positive, volts-in, amps-good}
+use Rattle.answer.proofs.Whole.{room-stays, earlier-all, passing, whole, in-range, k-in, faulted-good, d-fits, d-positive, volts-in, amps-good}
 use Rattle.answer.proofs.answer.Statement.{statement}
 use Rattle.answer.proofs.answer.Tie as tie
 
@@ -57,7 +57,7 @@ amps-requires c κs =
     let g = c .before .before .before .before .before .before .before .before .before in
     let s = g .before .before .before in
     let p = s .pre .1 in
-    (volts-in p .0, (volts-in p .1, d-positive p (toZ-ofZ {w = w64} {z = g .fault-at .result .d} (search needs)) (g .fault-at .ensures)))
+    (volts-in p .0, (volts-in p .1, d-positive p (toZ-ofZ {w = w64} {z = g .fault-at .result .d} (d-fits p (g .fault-at .ensures))) (g .fault-at .ensures)))
 
 same-length : tie.Need-same-length
 same-length c = search needs
@@ -66,7 +66,7 @@ returns : tie.Need-returns
 returns c =
     let g = c .before .before .before .before .before .before .before .before .before .before in
     let s = g .before .before .before in (
-      λ q p. amps-good p (c .amps .result) (toZ-ofZ {w = w64} {z = g .fault-at .result .d} (search needs)) (g .fault-at .ensures) (c .amps .ensures),
+      λ q p. amps-good p (c .amps .result) (toZ-ofZ {w = w64} {z = g .fault-at .result .d} (d-fits p (g .fault-at .ensures))) refl (g .fault-at .ensures) (c .amps .ensures),
       λ q p. whole p (s .args .out .now) refl (faulted-good p (g .fault-at .ensures)) (c .before .before .before .before .before .before .before .top .ensures)
           (c .before .before .before .before .boards .ensures q (passing p refl refl (g .fault-at .ensures) (c .before .before .before .before .before .before .before .before .before .chain .ensures))),
     )

@@ -1,16 +1,15 @@
 -- `ask::ask` meets its contract: each return is one outcome of the fault's rows. Assumes nothing.
 use mathlib.Core.Path.{_≡_}
-use Prim.Native.Nat.{ℕ, _-_, _≤_}
+use Prim.Native.Nat.{ℕ, _≤_}
 use native.Mathlib.Omega.{arith}
-use lib.ListN.{length, getD, take}
+use lib.ListN.{length, take}
 use lib.Seq.{length-take-le}
 use borrow.Author.Needs.{needs}
 use Rattle.paper.specs.declared.Fault.{Fault}
-use Rattle.paper.specs.Chain.{Boards, startsAt}
+use Rattle.paper.specs.Chain.{Boards}
 use Rattle.follows.proofs.Places.{place-most}
-use Rattle.node.specs.Node.{noNode}
 use Rattle.ask.proofs.Sound.{Sound, sound}
-use Rattle.ask.proofs.Outcomes.{start-read, ask-unread, ask-14, ask-at}
+use Rattle.ask.proofs.Outcomes.{ask-unread, ask-14, ask-at}
 use Rattle.ask.proofs.ask.Statement.{statement}
 use Rattle.ask.proofs.ask.Tie as tie
 
@@ -59,38 +58,25 @@ abbrev bs : Placed → Boards
 bs c = take (start c .args .n) (start c .args .boards)
 
 long : (c : Placed) → length (bs c) ≡ start c .args .n
-long c = length-take-le (start c .args .n) (start c .args .boards) (omega (arith, start c .pre .0, start c .good .1 .0))
+long c = length-take-le (start c .args .n) (start c .args .boards) (omega (arith, start c .pre, start c .good .1 .0))
 
 among : (c : Placed) → k c ≤ length (bs c)
 among c = omega (arith, c .before .lookup .ensures, place-most (fault c .label) (bs c))
 
 few : (c : Placed) → k c ≤ 256
-few c = omega (arith, among c, long c, start c .pre .0)
-
-sub-i : tie.Need-sub-i
-sub-i c = search needs
+few c = omega (arith, among c, long c, start c .pre)
 
 cast-at-board : tie.Need-cast-at-board
 cast-at-board c = record { fits = omega (arith, few c) }
 
-mul-at-board : tie.Need-mul-at-board
-mul-at-board c = record { fits = omega (arith, few c) }
-
-element-copy-out-at-board : tie.Need-element-copy-out-at-board
-element-copy-out-at-board c = omega (arith, few c, c .if2 .left)
-
 at-board-requires : tie.Need-at-board-requires
 at-board-requires c κs = search needs
-
--- (`t3` is the parameter `nodes`)
-starts : (c : Placed) → getD (start c .args .t3) (k c - 1) noNode .start ≡ startsAt (bs c) (k c)
-starts c = start-read (bs c) noNode (k c) (start c .pre .1) (c .if2 .left) (among c)
 
 returns-3 : tie.Need-returns-3
 returns-3 c =
     let p = c .before in
     let f = p .before .before .before in
-    ask-at _ _ _ (fine (f .before)) (f .fault-of .ensures) (p .before .lookup .ensures) (p .if2 .left) (starts p) (long p) (c .at-board .ensures)
+    ask-at _ _ _ (fine (f .before)) (f .fault-of .ensures) (p .before .lookup .ensures) (p .if2 .left) (long p) (c .at-board .ensures)
 
 pub ask-spec : {M : Type 1} → statement M
 ask-spec =
@@ -103,9 +89,6 @@ ask-spec =
     lookup-requires
     refused-requires-2
     returns-2
-    sub-i
     cast-at-board
-    mul-at-board
-    element-copy-out-at-board
     at-board-requires
     returns-3)

@@ -1,6 +1,5 @@
--- `board::passed` meets its contract: I0 passes where the zero-sequence sum is the faulted board's. Assumes nothing.
+-- `board::passed` meets its contract: I0 passes in the faulted board's part, where that has an earth return. Assumes nothing.
 use borrow.Author.Needs.{needs}
-use Rattle.board.specs.Numbers.{passedOf}
 use Rattle.board.proofs.passed.Statement.{statement}
 use Rattle.board.proofs.passed.Tie as tie
 
@@ -8,7 +7,6 @@ carried-requires : tie.Need-carried-requires
 carried-requires c κs = search needs
 
 returns : tie.Need-returns
-unfolding passedOf
 returns c = c .carried .ensures
 
 pub passed-spec : {M : Type 1} → statement M

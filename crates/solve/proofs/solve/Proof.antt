@@ -1,13 +1,11 @@
 -- `solve::solve` meets its contract: the network is refused, the fault is refused, or both are accepted and the buffer holds the answer. Assumes nothing.
-use mathlib.Core.Path.{_≡_, sym, subst}
+use mathlib.Core.Path.{sym, subst}
 use Prim.Native.Nat.{_≤_}
 use native.Mathlib.Omega.{arith}
-use lib.ListN.{length, take}
+use lib.ListN.{length}
 use borrow.Author.Needs.{needs}
 use Rattle.paper.specs.Phase.{Asked, asked}
 use Rattle.network.specs.declared.Network.{Network}
-use Rattle.node.specs.Node.{noNode}
-use Rattle.node.specs.Tables.{table, nodesOf}
 use Rattle.solve.proofs.Asking.{of-network}
 use Rattle.answer.specs.Posed.{Posed}
 use Rattle.solve.proofs.Outcomes.{Asking, refused-network, refused-fault, none-broken, as-posed, as-counted, room-there, refuses, accepts}
@@ -37,7 +35,7 @@ cast-ask c = search needs
 ask-requires : tie.Need-ask-requires
 ask-requires c κs =
     let r = c .before .before .before .before .before in
-    subst (λ (g : Network). (g .head .boards ≤ 256) × (g .nodes ≡ table noNode (nodesOf (take (g .head .boards) (g .boards))))) (sym (r .read .ensures)) (of-network _)
+    subst (λ (g : Network). g .head .boards ≤ 256) (sym (r .read .ensures)) (of-network _)
 
 enum-known-heard : tie.Need-enum-known-heard
 enum-known-heard c = search needs

@@ -1,6 +1,7 @@
 //! Which edges of the paper's ranges the cases have met, on either side.
 
 mod solve;
+pub mod unearthed;
 mod write;
 
 use std::collections::BTreeMap;

@@ -69,7 +69,7 @@ impl Edges {
                 self.taken_head(case, v);
                 self.taken_room(case, v);
                 self.taken_records(&case.net);
-                self.taken_sums(&case.net, v);
+                self.taken_sums(case, v);
             }
             1..=4 => self.refused_head(&case.net, v.number),
             5..=8 => self.refused_label(case, v),
@@ -89,7 +89,6 @@ impl Edges {
         self.edge(unit == 1000, "taken: unit 1000");
         self.edge(v.boards == 1, "taken: N 1");
         self.edge(v.boards == 256, "taken: N 256");
-        self.edge(v.amps == 0, "taken: 0 amps");
         self.edge(v.amps > 1_000_000, "taken: over 1,000,000 amps");
         let most = word(f, 16) == 1365 || word(f, 18) == 1365;
         self.edge(most, "taken: Zf part 1365");
@@ -125,7 +124,8 @@ impl Edges {
         }
     }
 
-    fn taken_sums(&mut self, net: &[u8], v: &Verdict) {
+    fn taken_sums(&mut self, case: &SolveCase, v: &Verdict) {
+        let net = &case.net;
         let all = levels(net, 256);
         let k = all[v.place as usize - 1];
         let any = |test: &dyn Fn(&Level) -> bool| all.iter().any(test);
@@ -139,6 +139,12 @@ impl Edges {
         self.edge(earth, "taken: Z0 part 4095");
         self.edge(back, "taken: d below 0");
         self.edge(far, "taken: d over 11");
+        let clear = matches!(case.fault[14], 0 | 2);
+        let none = clear && k.z0.is_none();
+        self.edge(none, "taken: clear of earth at a board without return");
+        // Where no current flows at all nothing is cut down.
+        let cut = v.amps == 0 && (clear || k.z0.is_some());
+        self.edge(cut, "taken: a current of 0 amps");
         let free = net[8..].chunks(44).zip(&all).any(|(b, l)| {
             let term = u32::from(part(b, 4)) + 3 * u32::from(part(b, 6));
             l.z0.is_none() && term > 4095
@@ -181,8 +187,6 @@ impl Edges {
         let large = |i: usize| n == 17 && word(f, i) == 1366;
         self.edge(large(16), "refused: Zf r 1366");
         self.edge(large(18), "refused: Zf x 1366");
-        self.edge(n == 18 && f[14] == 1, "refused: kind 1 without return");
-        self.edge(n == 18 && f[14] == 3, "refused: kind 3 without return");
         let need = room_needed((case.net.len() - 8) / 44);
         let short = n == 19 && case.room + 1 == need;
         self.edge(short, "refused: room one short");

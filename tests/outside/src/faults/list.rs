@@ -33,6 +33,7 @@ fn nowhere() -> [u8; 12] {
 const NOBODY: &[Witness] = &[];
 const LAWS: &[Witness] = &[Witness::Laws];
 const BOTH: &[Witness] = &[Witness::Laws, Witness::Solve];
+const EVERY: &[Witness] = &[Witness::Laws, Witness::Solve, Witness::Crew];
 
 fn row(name: &'static str, fault: Fault, case: fn(&mut Draft), alone: &'static [Witness]) -> Row {
     Row {
@@ -93,7 +94,7 @@ fn readings() -> Vec<Row> {
             "no return read as Z0 = 0",
             |p| p.none_is_none = false,
             unearthed,
-            BOTH,
+            EVERY,
         ),
         reading(
             "Z0 shared across starts",
@@ -289,13 +290,15 @@ fn orders() -> Vec<Row> {
             d.phase = 3;
             d.zf = [1366, 0];
         }),
-        order("17 and 18 exchanged", 17, |d| {
+        // 18 is withdrawn: 19 follows 17, with an earth return and without.
+        order("17 and 19 exchanged", 17, |d| {
+            d.zf = [1366, 0];
+            d.room = 0;
+        }),
+        order("17 and 19 exchanged, no earth return", 17, |d| {
             unearthed(d);
             d.zf = [1366, 0];
-        }),
-        order("18 and 19 exchanged", 18, |d| {
-            unearthed(d);
-            d.room = 0;
+            d.room = 84;
         }),
     ]
 }

@@ -6,6 +6,8 @@
 //! drawn, so nothing depends on a seed; `hunt` says how soon the drawn cases meet the same faults.
 
 mod list;
+mod premise;
+mod unearthed;
 mod writer;
 
 use crate::compare::{alone, Witness};
@@ -102,6 +104,7 @@ fn rows() -> Vec<Row> {
 /// Those that any case may show, not only the one made for it.
 fn drawn() -> Vec<Row> {
     let mut rows = list::drawn();
+    rows.extend(unearthed::drawn());
     rows.extend(writer::drawn());
     rows
 }
@@ -150,6 +153,7 @@ fn name(who: Witness) -> &'static str {
     match who {
         Witness::Laws => "laws alone",
         Witness::Solve => "solve alone",
+        Witness::Crew => "the crew alone",
         Witness::ReadBack => "the reader alone",
     }
 }
@@ -175,21 +179,26 @@ fn complaint(case: &Case, mut bytes: &[u8]) -> Option<String> {
 /// All faults; none may go by.
 pub fn all() -> Result<(), String> {
     let mut missed = Vec::new();
-    let rows = rows();
-    for row in &rows {
-        match row.tried() {
-            Ok(what) => {
-                let also = row.alone.iter().map(|who| format!(", by {}", name(*who)));
-                println!("caught  {}{}", row.name, also.collect::<String>());
-                println!("          {}", what.replace('\n', "\n          "));
-            }
-            Err(what) => missed.push(format!(
-                "self-test: {what}: the comparison itself is at fault"
-            )),
+    let mut see = |name: &str, seen: &[Witness], tried: Result<String, String>| match tried {
+        Ok(what) => {
+            let also = seen.iter().map(|who| format!(", by {}", self::name(*who)));
+            println!("caught  {name}{}", also.collect::<String>());
+            println!("          {}", what.replace('\n', "\n          "));
         }
+        Err(what) => missed.push(format!(
+            "self-test: {what}: the comparison itself is at fault"
+        )),
+    };
+    let (rows, slips) = (rows(), premise::slips());
+    for row in &rows {
+        see(row.name, row.alone, row.tried());
     }
-    let caught = rows.len() - missed.len();
-    println!("{caught} of {} deliberate faults caught", rows.len());
+    for slip in &slips {
+        see(slip.name, &[], slip.tried());
+    }
+    let all = rows.len() + slips.len();
+    let caught = all - missed.len();
+    println!("{caught} of {all} deliberate faults caught");
     if missed.is_empty() {
         return Ok(());
     }

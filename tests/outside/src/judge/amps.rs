@@ -37,6 +37,11 @@ pub fn cut(paper: &Paper, grid: &Grid, short: &Short, shown: [Num; 3], d: i128) 
         2 => shown[(p + 1) % 3],
         _ => shown.iter().copied().sum(),
     };
+    // Only under the fault "kind 3 with kind 2's amps": the earth current is zero without a return.
+    let current = match short.kind {
+        3 if current == Num::ZERO && !paper.unearthed.earth_amps => shown[(p + 1) % 3],
+        _ => current,
+    };
     let above = current
         .norm()
         .expect("|I| squared is a fraction of whole numbers");

@@ -3,23 +3,23 @@
 use super::chains::{chain, earth_path, sums, term, turn};
 use super::fault::Short;
 use super::network::Grid;
-use super::{amps, chains::Sums};
+use super::{amps, chains::Sums, unearthed};
 use crate::paper::Paper;
 use crate::ring::Num;
 use std::convert::TryFrom;
 
 /// Sequence values 0, 1, 2 (in this order), as numerators over D.
-type Triple = [Num; 3];
+pub type Triple = [Num; 3];
 
-/// The fault currents referred to the odd phase, and D.
-pub fn currents(paper: &Paper, s: &Sums, short: &Short) -> (Triple, i128) {
+/// The fault currents referred to the odd phase, and D. G is the paper's; none without earth return.
+fn currents(paper: &Paper, s: &Sums, g: Option<Num>, short: &Short) -> (Triple, i128) {
     let (one, none) = (Num::whole(1), Num::ZERO);
-    let g = s.z0.unwrap_or(none) + short.zf.times(paper.zf_times);
-    let (over, divisor) = match short.kind {
-        0 => ([none, one, none], s.z1 + short.zf),
-        1 => ([one, one, one], s.z1 + s.z2 + g),
-        2 => ([none, one, -one], s.z1 + s.z2 + short.zf),
-        _ => ([-s.z2, s.z2 + g, -g], s.z1 * s.z2 + s.z1 * g + s.z2 * g),
+    let (over, divisor) = match (short.kind, g) {
+        (0, _) => ([none, one, none], s.z1 + short.zf),
+        (2, _) => ([none, one, -one], s.z1 + s.z2 + short.zf),
+        (1, Some(g)) => ([one, one, one], s.z1 + s.z2 + g),
+        (_, Some(g)) => ([-s.z2, s.z2 + g, -g], s.z1 * s.z2 + s.z1 * g + s.z2 * g),
+        (_, None) => unearthed::currents(paper, s, short),
     };
     let d = divisor.norm().expect("the divisor is R + jX");
     assert!(d > 0, "the divisor is never zero");
@@ -50,6 +50,8 @@ struct Scene<'a> {
     on_chain: Vec<bool>,
     on_earth: Vec<bool>,
     start: Option<usize>,
+    /// Boards whose W0 is what an earth fault without earth return makes of it.
+    moved: Vec<bool>,
 }
 
 fn marks(count: usize, list: &[usize]) -> Vec<bool> {
@@ -84,7 +86,17 @@ impl Scene<'_> {
 
     fn voltages(&self, j: usize) -> Triple {
         let drop = |s: usize| self.shared(s, j) * self.i[s];
-        [-drop(0), Num::whole(self.d) - drop(1), -drop(2)]
+        let w0 = if self.moved[j] {
+            let w1 = |board: usize| self.w1(board);
+            unearthed::w0(self.paper, self.short, self.d, j, w1)
+        } else {
+            -drop(0)
+        };
+        [w0, self.w1(j), -drop(2)]
+    }
+
+    fn w1(&self, j: usize) -> Num {
+        Num::whole(self.d) - self.shared(1, j) * self.i[1]
     }
 
     fn record_currents(&self, r: usize) -> Triple {
@@ -114,7 +126,10 @@ fn put(phases: &Triple, out: &mut [i64]) {
 pub fn write(paper: &Paper, grid: &Grid, short: &Short, out: &mut [i64]) -> u64 {
     let k = short.board;
     let count = grid.boards.len();
-    let (i, d) = currents(paper, &sums(paper, grid, k), short);
+    let sums = sums(paper, grid, k);
+    let z0 = sums.z0.filter(|_| paper.unearthed.no_return_only);
+    let g = z0.map(|z0| z0 + short.zf.times(paper.zf_times));
+    let (i, d) = currents(paper, &sums, g, short);
     let earth = earth_path(paper, grid, k);
     let scene = Scene {
         paper,
@@ -125,6 +140,10 @@ pub fn write(paper: &Paper, grid: &Grid, short: &Short, out: &mut [i64]) -> u64 
         on_chain: marks(count, &chain(grid, k)),
         on_earth: marks(count, earth.as_deref().unwrap_or(&[])),
         start: earth.and_then(|path| path.last().copied()),
+        moved: match g {
+            None => unearthed::moved(paper, grid, short),
+            Some(_) => vec![false; count],
+        },
     };
     let out_of_network = show(paper, short.phase, 0, i);
     out[0] = i64::try_from(d).expect("D fits 64 bits");

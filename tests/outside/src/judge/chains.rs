@@ -19,6 +19,8 @@ pub fn earth_path(paper: &Paper, grid: &Grid, r: usize) -> Option<Vec<usize>> {
             0 => return Some(path),
             4 if paper.kind4_starts => return Some(path),
             2..=4 => {}
+            // Only under the fault "kind 5 passes zero sequence".
+            5 if !paper.kind5_blocks => {}
             _ if paper.none_is_none => return None,
             _ => return Some(path),
         }

@@ -7,6 +7,7 @@ pub mod board;
 pub mod chains;
 pub mod fault;
 pub mod network;
+mod unearthed;
 
 use crate::paper::Paper;
 

@@ -33,7 +33,6 @@ pub fn break_rule(rng: &mut Rng, d: &mut Draft, rule: usize) {
         15 => d.fault_kind = rng.pick(&[4, 4, 5, 128, 255]),
         16 => phase(rng, d),
         17 => d.zf[rng.below(2)] = rng.pick(&[1366, 1366, 1367, 4095, 65535, 32768]),
-        18 => unearthed(rng, d),
         _ => d.room = short_room(rng, d.recs.len()),
     }
 }
@@ -208,22 +207,6 @@ fn phase(rng: &mut Rng, d: &mut Draft) {
         d.fault_kind = 0;
         d.phase = rng.range(1, 2) as u8;
     }
-}
-
-/// An earth fault where there is no return; if every board has one, the source loses its earth.
-fn unearthed(rng: &mut Rng, d: &mut Draft) {
-    let lost = |d: &Draft| -> Vec<usize> {
-        let all = 0..d.recs.len();
-        all.filter(|&r| d.sums(r).1.is_none()).collect()
-    };
-    if lost(d).is_empty() {
-        d.recs[0].kind = 1;
-        d.recs[0].z[4..].fill(0);
-    }
-    let list = lost(d);
-    d.fault_label = d.recs[rng.pick(&list)].label;
-    d.fault_kind = rng.pick(&[1, 3]);
-    d.phase = rng.below(3) as u8;
 }
 
 fn short_room(rng: &mut Rng, count: usize) -> usize {

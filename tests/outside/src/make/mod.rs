@@ -6,6 +6,7 @@ mod file;
 pub mod labels;
 pub mod model;
 mod sound;
+mod unearthed;
 
 use self::model::Draft;
 use crate::judge::board::RECORD;
@@ -80,7 +81,8 @@ fn to_solve(rng: &mut Rng) -> SolveCase {
 
 fn mixed(rng: &mut Rng) -> SolveCase {
     match rng.below(1000) {
-        0..=559 => finish(sound::draft(rng), "sound"),
+        0..=449 => finish(sound::draft(rng), "sound"),
+        450..=559 => finish(unearthed::draft(rng), "no earth return"),
         560..=789 => broken(rng, 1),
         790..=879 => broken(rng, 2),
         880..=899 => broken(rng, 3),
@@ -112,21 +114,27 @@ pub fn finish_file(draft: &Draft, note: &str) -> WriteCase {
     }
 }
 
+/// The table's rules; 18 is withdrawn.
+const RULES: [usize; 18] = [
+    1, 2, 3, 4, 5, 6, 7, 8, 9, 10, 11, 12, 13, 14, 15, 16, 17, 19,
+];
+
 /// One to three rules broken at once; the second is often the next rule, where order shows most.
 fn broken(rng: &mut Rng, count: usize) -> SolveCase {
-    let mut draft = sound::draft(rng);
+    let mut draft = if rng.permille(200) {
+        unearthed::draft(rng)
+    } else {
+        sound::draft(rng)
+    };
     let mut note = String::from("broken");
-    let mut last = 0;
+    let mut at = rng.below(RULES.len());
     for _ in 0..count {
-        let near = last > 0 && rng.coin();
-        let rule = if near {
-            last % 19 + 1
-        } else {
-            rng.range(1, 19)
+        aim::break_rule(rng, &mut draft, RULES[at]);
+        note += &format!(" {}", RULES[at]);
+        at = match rng.coin() {
+            true => (at + 1) % RULES.len(),
+            false => rng.below(RULES.len()),
         };
-        aim::break_rule(rng, &mut draft, rule);
-        note += &format!(" {rule}");
-        last = rule;
     }
     // A refusal shows what it must not write in a few numbers as well as in many.
     if draft.room > 60 && !note.contains("19") && rng.permille(800) {

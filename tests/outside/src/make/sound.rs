@@ -59,7 +59,11 @@ fn kind(rng: &mut Rng, mix: usize) -> u8 {
         1 => rng.pick(&[2, 2, 2, 3]),
         2 => rng.pick(&[4, 5]),
         3 => rng.pick(&[2, 3, 4]),
-        _ => rng.pick(&[2, 2, 3, 3, 4, 4, 5]),
+        4 | 5 => rng.pick(&[2, 2, 3, 3, 4, 4, 5]),
+        // Of parts: the source's own only, several, several with earthed ones between them.
+        6 => rng.pick(&[2, 2, 3]),
+        7 => rng.pick(&[2, 2, 2, 3, 3, 5]),
+        _ => rng.pick(&[2, 2, 2, 3, 3, 4, 5]),
     }
 }
 
@@ -178,9 +182,21 @@ fn empty(rng: &mut Rng, count: usize) -> Draft {
 
 /// `count` boards, also more than a file may have; none where it is 0.
 pub fn network(rng: &mut Rng, count: usize) -> Draft {
+    let mix = rng.below(6);
+    grown(rng, count, mix, 250)
+}
+
+/// The same, of parts without earth return for the most.
+pub fn parts(rng: &mut Rng, count: usize) -> Draft {
+    let mix = rng.range(6, 8);
+    grown(rng, count, mix, 500)
+}
+
+/// The source is without earth in `unearthed` of 1,000.
+fn grown(rng: &mut Rng, count: usize, mix: usize, unearthed: usize) -> Draft {
     let mut draft = empty(rng, count);
     let names = labels::distinct(rng, count);
-    let (mut shape, mix, usual) = (rng.below(7), rng.below(6), size(rng));
+    let (mut shape, usual) = (rng.below(7), size(rng));
     if count >= 256 && rng.coin() {
         // The deepest chain there can be.
         shape = 0;
@@ -190,7 +206,7 @@ pub fn network(rng: &mut Rng, count: usize) -> Draft {
         let up = (r > 0).then(|| feeder(rng, shape, r));
         let kind = match up {
             Some(_) => kind(rng, mix),
-            None => u8::from(rng.permille(250)),
+            None => u8::from(rng.permille(unearthed)),
         };
         let size = if rng.permille(100) { size(rng) } else { usual };
         let above = up.map_or(Sums::default(), |u| sums[u]);
@@ -220,12 +236,11 @@ fn board(rng: &mut Rng, count: usize) -> usize {
 fn fault(rng: &mut Rng, draft: &mut Draft) {
     let count = draft.recs.len();
     let mut k = board(rng, count);
-    let mut kind = rng.below(4) as u8;
+    let kind = rng.below(4) as u8;
     let earthed = |r: usize| draft.sums(r).1.is_some();
-    if kind % 2 == 1 && !earthed(k) {
-        // Kinds 1 and 3 want an earth return: the next board that has one, else another kind.
-        let next = (1..count).map(|i| (k + i) % count).find(|&r| earthed(r));
-        kind -= u8::from(next.is_none());
+    if kind % 2 == 1 && rng.coin() {
+        // Kinds 1 and 3 with an earth return (`unearthed` makes the others): the next board with one.
+        let next = (0..count).map(|i| (k + i) % count).find(|&r| earthed(r));
         k = next.unwrap_or(k);
     }
     let zf = |rng: &mut Rng| match rng.below(10) {

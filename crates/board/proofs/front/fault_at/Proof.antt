@@ -1,5 +1,7 @@
 -- `board::front::fault_at` meets its contract: it is the fault at the node's sums. Assumes nothing.
-use mathlib.Core.Path.{_≡_, ap, _∙_}
+use mathlib.Core.Bool.{not}
+use mathlib.Core.Path.{ap, _∙_}
+use lib.Dec.{eqb}
 use borrow.Author.Needs.{needs}
 use mir.Syntax.{w64}
 use mir.Facts.{toZ-ofZ}
@@ -14,14 +16,16 @@ short-requires c κs = search needs
 returns : tie.Need-returns
 unfolding faultedFrom
 returns c =
-    let s = c .before .before in
-    let a = s .before .before .before .before .before .args in
+    let s = c .before .before .before in
+    let a = s .before .before .before .before .before .before .args in
     λ i. record {
       i = ap (λ (r : Shorted). r .i) (s .short .ensures) i;
+      lift = ap (λ (r : Shorted). r .lift) (s .short .ensures) i;
       d = (toZ-ofZ {w = w64} {z = s .short .result .d} (search needs) ∙ ap (λ (r : Shorted). r .d) (s .short .ensures)) i;
-      start = a .at .start;
+      head = a .at .head;
       turn = a .at .turn;
       phase = a .f .phase;
+      earthed = not (eqb (a .at .start) 0);
     }
 
 pub fault-at-spec : {M : Type 1} → statement M

@@ -29,7 +29,7 @@ returns c =
     let z1 = z2 .before in
     let s = z1 .before .before .before .before .before .args in
     c .with-zero .ensures
-    ∙ (λ i. withZero (record { z1 = z1 .plus .ensures i; z2 = z2 .plus2 .ensures i; z0 = ohms 0 0; feeder = s .feeder; start = 0; turn = s .b .clock + s .up .turn }) (s .b) (s .r) (kindOf (s .b .kind) .zero-seq) (s .up))
+    ∙ (λ i. withZero (record { z1 = z1 .plus .ensures i; z2 = z2 .plus2 .ensures i; z0 = ohms 0 0; feeder = s .feeder; head = 0; start = 0; turn = s .b .clock + s .up .turn }) (s .b) (s .r) (kindOf (s .b .kind) .zero-seq) (s .up))
 
 pub node-from-spec : {M : Type 1} → statement M
 node-from-spec =

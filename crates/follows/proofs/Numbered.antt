@@ -1,15 +1,18 @@
--- A refusal's number is not 0: so the number tells an answer that is refused from one that is accepted. Assumes nothing.
+-- The rows of the refusal table are numbered from 1: so a verdict's number is 0 exactly where nothing is refused. Assumes nothing.
 use mathlib.Core.Bool.{true, false}
 use mathlib.Core.List.{List, [], _∷_, _++_}
 use mathlib.Core.Option.{Option, none, some}
-use mathlib.Core.Path.{_≡_, subst}
+use mathlib.Core.Path.{_≡_, refl, sym, _∙_, ap, subst}
 use Prim.Native.Nat.{ℕ, _<_}
+use native.Mathlib.Omega.{arith}
 use lib.Dec.{T, ltb, ltb→lt}
 use Rattle.paper.specs.declared.Refusal.{Refusal}
 use Rattle.paper.specs.File.{boardOf, recordsOf, boardsOf}
 use Rattle.paper.specs.Chain.{Boards}
 use Rattle.paper.specs.Rows.{Row, row, rowsAt, first, _then_}
 use Rattle.paper.specs.Refusal.{headRows, boardTests, recordRefusal, inOrder, recordsRefusal, networkRefusal, faultRows, refusal}
+use Rattle.paper.specs.Phase.{asked}
+use Rattle.paper.specs.Answer.{refused, answer, verdict}
 
 abbrev Numbered : Option Refusal → Type 0
 Numbered none = Unit {0}
@@ -46,7 +49,7 @@ head-numbered net = first-numbered _ (tt, (tt, (tt, (tt, tt))))
 
 fault-numbered : (bs : Boards) (flt : List ℕ) (room : ℕ) → Numbered (first (faultRows bs flt room))
 unfolding faultRows
-fault-numbered bs flt room = first-numbered _ (tt, (tt, (tt, (tt, (tt, (tt, (tt, (tt, tt))))))))
+fault-numbered bs flt room = first-numbered _ (tt, (tt, (tt, (tt, (tt, (tt, (tt, tt)))))))
 
 refusal-numbered : (net flt : List ℕ) (room : ℕ) → Numbered (refusal net flt room)
 unfolding refusal networkRefusal
@@ -55,5 +58,14 @@ refusal-numbered net flt room =
     (then-numbered (first (headRows net)) (recordsRefusal [] (recordsOf net)) (head-numbered net) (records-numbered [] (recordsOf net)))
     (fault-numbered (boardsOf net) flt room)
 
-pub refusal-number : (net flt : List ℕ) (room : ℕ) {r : Refusal} → refusal net flt room ≡ some r → 0 < r .number
-refusal-number net flt room e = subst Numbered e (refusal-numbered net flt room)
+-- ---- so 0 is acceptance
+pub accepted-by : (net flt : List ℕ) (room : ℕ) → verdict net flt room .number ≡ 0 → refusal net flt room ≡ none
+unfolding verdict answer refused
+accepted-by net flt room h = go (refusal net flt room) refl
+  where
+    go : (r : Option Refusal) → refusal net flt room ≡ r → refusal net flt room ≡ none
+    go none e = e
+    go (some r) e =
+        let n : 0 < r .number = subst Numbered e (refusal-numbered net flt room) in
+        let z : r .number ≡ 0 = sym (ap (λ (x : Option Refusal). answer x (asked net flt) .number) e) ∙ h in
+        absurd (omega arith)
