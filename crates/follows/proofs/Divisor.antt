@@ -1,7 +1,7 @@
 -- "The divisor is never zero; that is proved." Over any four impedances, with z1 and z2 not zero, and for every kind (the row of a number that is no kind is
 -- divided by one). Assumes nothing.
 use mathlib.Core.Path.{_≡_, refl, sym, _∙_, ap, ap₂, subst}
-use mathlib.Core.Bool.{false, _&&_}
+use mathlib.Core.Bool.{Bool, false, _&&_}
 use mathlib.Core.List.{[], _∷_}
 use Prim.Native.Nat.{ℕ, zero, suc, _+_, _-_, _*_, _≤_, _<_}
 use native.Mathlib.Nat.{mul-pos}
@@ -153,6 +153,11 @@ currents-over z1 z2 z0 zf kind =
     let e = D-square z1 z2 z0 zf kind in
     record { over1 = over-one d w (n .s1) e; over2 = over-one d w (n .s2) e; over0 = over-one d w (n .s0) e }
 
+-- ---- of the row of either table
+pub row-square : (z1 z2 z0 zf : Ohms) (unearthed : Bool) (kind : ℕ) → let s = shortOf (numOf z1) (numOf z2) (numOf z0) (numOf zf) unearthed kind in s .divisor *N conjN (s .divisor) ≡ wholeN (D s)
+row-square z1 z2 z0 zf unearthed kind =
+    subst (λ (s : Short). s .divisor *N conjN (s .divisor) ≡ wholeN (D s)) (sym (by-row z1 z2 z0 zf unearthed kind)) (D-square z1 z2 z0 (zfAt unearthed kind zf) (kindAt unearthed kind))
+
 -- ---- of a question, with an earth return or without
 module _ (q : Asked) where
   open Asked q using (boards, fault, k)
@@ -177,8 +182,8 @@ module _ (q : Asked) where
 
   -- "D is the square of its absolute value"
   pub theD-square : theShort q .divisor *N conjN (theShort q .divisor) ≡ wholeN (theD q)
-  unfolding theD
-  theD-square = rw theShort-is (D-square (Z1 boards k) (Z2 boards k) (Z0 boards k) zf kind)
+  unfolding theD theShort
+  theD-square = row-square (Z1 boards k) (Z2 boards k) (Z0 boards k) (fault .zf) (unearthed boards k) (fault .kind)
 
   pub theD-natural : theD q ≡ pos (natAbs (theD q))
   theD-natural = rw theD-is (D-natural (Z1 boards k) (Z2 boards k) (Z0 boards k) zf kind)

@@ -1,46 +1,22 @@
 -- 02, R-2: "the boards joined to it by kinds 2 and 3". Two boards have the same head exactly where records of kinds 2 and 3 link them, any number of them, up and down. Assumes nothing.
-use mathlib.Core.Bool.{true, false≢true}
+use mathlib.Core.Bool.{true}
 use mathlib.Core.List.{[], _∷_}
-use mathlib.Core.Logic.{_⊎_, inl, inr}
 use mathlib.Core.Path.{_≡_, refl, sym, _∙_, ap, subst}
 use Prim.Native.Nat.{ℕ, suc, _≤_}
 use native.Mathlib.Omega.{arith}
 use borrow.Author.Tests.{eq-eqb, eqb-true}
 use Rattle.paper.specs.Bytes.{oneOf}
-use Rattle.paper.specs.Kind.{Zero, starts, goes-on, none, kinds, kindOf}
+use Rattle.paper.specs.Kind.{Zero, starts, goes-on, none}
 use Rattle.paper.specs.Chain.{Boards, board, feederOf, zeroOf, tied, tie, partHead, joined}
-use Rattle.follows.proofs.Lists.{On, on-none, on-cases}
 use Rattle.follows.proofs.Paths.{climbing}
 use Rattle.follows.proofs.Parts.{Tied, heads, joins, which, tie-by, part-tree, head-tied, head-top}
-use Rattle.follows.proofs.KindTable.{each-row}
+use Rattle.follows.proofs.KindTable.{GoesOn, on-by-kind, kind-by-on}
 
 -- a record of kind 2 or 3 links its board and its feeder's, and a link may be followed either way
 pub data Linked (bs : Boards) (j : ℕ) : ℕ → Type 0 where
   itself : Linked bs j j
   up : (q : ℕ) → oneOf (board bs (suc q) .kind) (2 ∷ 3 ∷ []) ≡ true → 1 ≤ feederOf bs (suc q) → Linked bs j (suc q) → Linked bs j (feederOf bs (suc q))
   down : (q : ℕ) → oneOf (board bs (suc q) .kind) (2 ∷ 3 ∷ []) ≡ true → 1 ≤ feederOf bs (suc q) → Linked bs j (feederOf bs (suc q)) → Linked bs j (suc q)
-
--- ---- kinds 2 and 3 are those that go on
-abbrev GoesOn : Zero → Type 0
-GoesOn (starts t) = ⊥
-GoesOn (goes-on t) = Unit {0}
-GoesOn none = ⊥
-
-on-by-kind : (k : ℕ) → oneOf k (2 ∷ 3 ∷ []) ≡ true → GoesOn (kindOf k .zero-seq)
-unfolding oneOf kindOf kinds
-on-by-kind = each-row (λ k c. oneOf k (2 ∷ 3 ∷ []) ≡ true → GoesOn (c .zero-seq)) (λ h. false≢true h, (λ h. false≢true h, (λ h. tt, (λ h. tt, (λ h. false≢true h, (λ h. false≢true h, tt)))))) (λ k l h. other k l (on-cases k 2 (3 ∷ []) h))
-  where
-    other : (k : ℕ) → 6 ≤ k → (k ≡ 2) ⊎ On k (3 ∷ []) → ⊥
-    other k l (inl e) = omega arith
-    other k l (inr h) = last (on-cases k 3 [] h)
-      where
-        last : (k ≡ 3) ⊎ On k [] → ⊥
-        last (inl e) = omega arith
-        last (inr h) = on-none k h
-
-kind-by-on : (k : ℕ) → GoesOn (kindOf k .zero-seq) → oneOf k (2 ∷ 3 ∷ []) ≡ true
-unfolding oneOf kindOf kinds
-kind-by-on = each-row (λ k c. GoesOn (c .zero-seq) → oneOf k (2 ∷ 3 ∷ []) ≡ true) (λ h. absurd h, (λ h. absurd h, (λ h. refl, (λ h. refl, (λ h. absurd h, (λ h. absurd h, tt)))))) (λ k l h. absurd h)
 
 module _ (bs : Boards) where
   goes-on-tied : (r : ℕ) → GoesOn (zeroOf bs r) → tie bs r ≡ feederOf bs r

@@ -1,7 +1,7 @@
 -- Sound boards: what 6 to 11 give of every board, in names. They stay sound as boards are read behind them. Assumes nothing.
 use mathlib.Core.Bool.{Bool, true, false, not, _&&_, _||_}
 use mathlib.Core.List.{[], _∷_, _++_}
-use mathlib.Core.Path.{_≡_, refl, sym, _∙_, ap, subst}
+use mathlib.Core.Path.{_≡_, refl, sym, _∙_, ap}
 use Prim.Native.Nat.{ℕ, zero, suc, _*_, _≤_, _<_}
 use native.Mathlib.Omega.{arith}
 use lib.Dec.{leb, lit≤}
@@ -10,7 +10,7 @@ use borrow.Author.Tests.{leb-true, leb-false, eqb-false, not-false}
 use Rattle.paper.specs.declared.Board.{Board}
 use Rattle.paper.specs.Bytes.{sameBytes}
 use Rattle.paper.specs.Label.{spaces, formed, sameLabel}
-use Rattle.paper.specs.Kind.{Term, Zero, starts, goes-on, none, kinds, kindOf, isZero, partOver, isStart}
+use Rattle.paper.specs.Kind.{Term, goes-on, kindOf, isZero, partOver, isStart}
 use Rattle.paper.specs.Chain.{Boards, board, placeOf, feederOf, chain, zeroOf, partChain, partHead, unearthed, sumΩ, term1, term2, term0, Z1, Z2, Z0, turnOf}
 use Rattle.paper.specs.Refusal.{feederWrong, sumWrong, boardTests}
 use Rattle.lemmas.proofs.Bools.{neither, same-by}
@@ -22,6 +22,7 @@ use Rattle.follows.proofs.Chain.{feeder-earlier, along, chain-board, tu
 use Rattle.follows.proofs.Next.{board-next, feeder-next}
 use Rattle.follows.proofs.Parts.{start-earthed, sum-earthed, sum-unearthed}
 use Rattle.follows.proofs.Before.{board-before, feeder-before, start-before, part-sum-before, Z1-before, Z2-before}
+use Rattle.follows.proofs.KindTable.{no-source}
 use Rattle.follows.proofs.Rows.{Clear}
 use Rattle.follows.proofs.Fit.{Fit, fit}
 
@@ -122,18 +123,7 @@ sum-wrong-is bs q = ap (λ c. partOver 4095 (Z1 bs (suc q)) || partOver 4095 (Z2
 
 -- ---- what goes on is no source, so it has a feeder
 pub going-on : (before : Boards) (b : Board) → Fit (suc (length before)) b → feederWrong before b ≡ false → {t : Term} → kindOf (b .kind) .zero-seq ≡ goes-on t → 1 ≤ placeOf (b .feeder) before
-unfolding kindOf kinds
 going-on [] b f w e = absurd (no-source (b .kind) (f .kind-first refl) e)
-  where
-    IsOn : Zero → Type 0
-    IsOn (starts t) = ⊥
-    IsOn (goes-on t) = Unit {0}
-    IsOn none = ⊥
-
-    no-source : (k : ℕ) → k ≤ 1 → {t : Term} → kindOf k .zero-seq ≡ goes-on t → ⊥
-    no-source zero h e = subst IsOn (sym e) tt
-    no-source (suc zero) h e = subst IsOn (sym e) tt
-    no-source (suc (suc k)) h e = omega arith
 going-on (x ∷ xs) b f w e = others-fed (x ∷ xs) b w (omega arith)
 
 pub sound-next : (before : Boards) (b : Board) → Sound before → Tested before b → Sound (before ++ (b ∷ []))

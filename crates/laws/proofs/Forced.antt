@@ -20,11 +20,11 @@ use Rattle.paper.specs.declared.Fault.{Fault}
 use Rattle.paper.specs.Kind.{isZero}
 use Rattle.paper.specs.Fault.{nilN, numOf, seq, G, Δ, Short, shorts, unearthedShorts, shortOf, D, currents, liftOf}
 use Rattle.paper.specs.Phase.{voltageOf, onlyIf}
-use Rattle.follows.proofs.Divisor.{cancel-divisor, Over}
+use Rattle.follows.proofs.Divisor.{cancel-divisor, Over, row-square}
 use Rattle.laws.specs.Values.{Same, SameSeq}
 use Rattle.laws.specs.Connection.{Condition}
 use Rattle.laws.proofs.Fractions.{from-product, same-whole, same-minus, same-scaled, same-add}
-use Rattle.laws.proofs.Lift.{rowAt, row-square, liftAt, Freed, not-freed, lift-same}
+use Rattle.laws.proofs.Lift.{rowAt, liftAt, Freed, not-freed, lift-same}
 use Rattle.laws.proofs.Conditions.{turnE, Z1E, Z2E, Z0E, ZfE, oneE, nilE, SeqE, seqE, GE, rowE, voltageE, Multipliers, conditions, values, value, valueSeq, equations}
 
 -- ---- the rivals' variables: E, the currents of sequences 1 and 2, and a third
@@ -220,7 +220,7 @@ module _ (f : Fault) (z1 z2 z0 : Ohms) (u : Bool) (kind : ℕ) (e : ℤ) (F : Se
           let d = row .divisor in
           from-product e (D row) x (n *N conjN d)
           (solveBy Nring 6 (λ d c w u x n. eqn c (d ⊗ x) (u ⊗ n) ∷ eqn (⊝ x) (d ⊗ c) w ∷ []) (λ d c w u x n. w ⊗ x) (λ d c w u x n. u ⊗ (n ⊗ c)) tt
-          d (conjN d) (wholeN (D row)) (wholeN e) x n (h, (row-square f z1 z2 z0 u kind, tt)))
+          d (conjN d) (wholeN (D row)) (wholeN e) x n (h, (row-square z1 z2 z0 (f .zf) u kind, tt)))
 
       fall : (x y : Num) → Same e x (D row) y → Same e (wholeN e -N numOf z1 *N x) (D row) (wholeN (D row) -N numOf z1 *N y)
       fall x y h = same-add e (D row) (wholeN e) (wholeN (D row)) (same-whole e (D row)) _ _ (same-minus e (D row) _ _ (same-scaled e (D row) x y h (numOf z1)))

@@ -14,7 +14,7 @@ use Rattle.paper.specs.Chain.{Boards, board, feederOf, zeroOf, tied, tie, partC
 use Rattle.follows.proofs.Lists.{On, on-none, on-cases}
 use Rattle.follows.proofs.Paths.{climbing, common-apart}
 use Rattle.follows.proofs.Chain.{feeder-earlier, turn-board}
-use Rattle.follows.proofs.KindTable.{each-row}
+use Rattle.follows.proofs.KindTable.{each-row, GoesOn, no-source}
 use Rattle.follows.proofs.Parts.{tie-by, part-tree, head-tied, head-top, on-head, earth-same, zero-earthed, zero-unearthed, zero-in-part}
 use Rattle.follows.proofs.Shared.{shared-apart}
 use Rattle.follows.proofs.Sound.{Sound}
@@ -49,26 +49,13 @@ module _ (bs : Boards) where
           ap₂ (λ l m. sumΩ (term0 bs) (common l m)) (sym (zero-earthed bs j v)) (sym (zero-earthed bs k u))
       go false c = let h = apart-head j k c in ap (sumΩ (term0 bs)) (common-apart (part-tree bs) j k h) ∙ sym (shared-apart bs k j h)
 
--- ---- what goes on: kinds 2 and 3
-abbrev Ends : Zero → Type 0
-Ends (starts t) = Unit {0}
-Ends (goes-on t) = ⊥
-Ends none = Unit {0}
-
--- not record 1, whose kinds start or block
-first-ends : (t : Term) (kind : ℕ) → kind ≤ 1 → kindOf kind .zero-seq ≡ goes-on t → ⊥
-unfolding kindOf kinds
-first-ends t zero l e = subst Ends e tt
-first-ends t (suc zero) l e = subst Ends e tt
-first-ends t (suc (suc kind)) l e = omega arith
-
--- and its clock is 0
+-- ---- what goes on turns nothing: its clock is 0
 still-clock : (kind : ℕ) (t : Term) → kindOf kind .zero-seq ≡ goes-on t → (c : ℕ) → On c (kindOf kind .clocks) → c ≡ 0
 unfolding kindOf kinds
 still-clock =
     each-row (λ kind row. (t : Term) → row .zero-seq ≡ goes-on t → (c : ℕ) → On c (row .clocks) → c ≡ 0)
-    (λ t e. absurd (subst Ends e tt), (λ t e. absurd (subst Ends e tt), (λ t e. zero-alone, (λ t e. zero-alone, (λ t e. absurd (subst Ends e tt), (λ t e. absurd (subst Ends e tt), tt))))))
-    (λ kind l t e. absurd (subst Ends e tt))
+    (λ t e. absurd (subst GoesOn (sym e) tt), (λ t e. absurd (subst GoesOn (sym e) tt), (λ t e. zero-alone, (λ t e. zero-alone, (λ t e. absurd (subst GoesOn (sym e) tt), (λ t e. absurd (subst GoesOn (sym e) tt), tt))))))
+    (λ kind l t e. absurd (subst GoesOn (sym e) tt))
   where
     zero-alone : (c : ℕ) → On c (0 ∷ []) → c ≡ 0
     zero-alone c o = go (on-cases c 0 [] o)
@@ -78,9 +65,9 @@ still-clock =
         go (inr o) = absurd (on-none c o)
 
 module _ (bs : Boards) (sound : Sound bs) where
-  -- so it has a feeder
+  -- and it has a feeder
   pub goes-on-fed : (q : ℕ) (t : Term) → suc q ≤ length bs → zeroOf bs (suc q) ≡ goes-on t → 1 ≤ feederOf bs (suc q)
-  goes-on-fed zero t l e = absurd (first-ends t (board bs 1 .kind) (sound 1 (omega arith) l .own .kind-first refl) e)
+  goes-on-fed zero t l e = absurd (no-source (board bs 1 .kind) (sound 1 (omega arith) l .own .kind-first refl) e)
   goes-on-fed (suc q) t l e = sound (suc (suc q)) (omega arith) l .fed (omega arith)
 
   -- ---- the turn: the same from the head on

@@ -18,9 +18,10 @@ use Rattle.paper.specs.declared.Seq.{Seq}
 use Rattle.paper.specs.declared.Fault.{Fault}
 use Rattle.paper.specs.Fault.{numOf, seq, Short, G, Δ, shorts, unearthedShorts, shortOf, D, currents, liftOf}
 use Rattle.paper.specs.Phase.{voltageOf, onlyIf}
+use Rattle.follows.proofs.Divisor.{row-square}
 use Rattle.laws.specs.Connection.{Condition, Connected}
 use Rattle.laws.proofs.Times.{times}
-use Rattle.laws.proofs.Lift.{rowAt, row-square, liftAt}
+use Rattle.laws.proofs.Lift.{rowAt, liftAt}
 use Rattle.laws.proofs.Conditions.{Z1E, nilE, SeqE, seqE, rowE, voltageE, Multipliers, conditions, values, valueSeq, from-equations}
 
 -- equations that hold of all values
@@ -89,7 +90,7 @@ module _ (f : Fault) (z1 z2 z0 : Ohms) (u : Bool) (k : f .kind ≤ 3) where
 
   pub keeps : Met (D row) (currents row)
   unfolding Connected voltageOf currents
-  keeps = subst (λ s. Keeps f z1 z2 z0 u (f .kind) s (currents row)) (row-square f z1 z2 z0 u (f .kind)) (each-kind f z1 z2 z0 (conjN (row .divisor)) u (f .kind) k)
+  keeps = subst (λ s. Keeps f z1 z2 z0 u (f .kind) s (currents row)) (row-square z1 z2 z0 (f .zf) u (f .kind)) (each-kind f z1 z2 z0 (conjN (row .divisor)) u (f .kind) k)
 
   pub keeps-times : (m : ℤ) → Met (m *ℤ D row) (times m (currents row))
   unfolding Connected voltageOf currents
@@ -100,7 +101,7 @@ module _ (f : Fault) (z1 z2 z0 : Ohms) (u : Bool) (k : f .kind ≤ 3) where
 
       source : d *N (conjN d *N wholeN m) ≡ wholeN (m *ℤ D row)
       source =
-          solve Nring 3 (λ d c m. d ⊗ (c ⊗ m)) (λ d c m. m ⊗ (d ⊗ c)) tt d (conjN d) (wholeN m) ∙ ap (λ t. wholeN m *N t) (row-square f z1 z2 z0 u (f .kind)) ∙ sym (whole-mul m (D row))
+          solve Nring 3 (λ d c m. d ⊗ (c ⊗ m)) (λ d c m. m ⊗ (d ⊗ c)) tt d (conjN d) (wholeN m) ∙ ap (λ t. wholeN m *N t) (row-square z1 z2 z0 (f .zf) u (f .kind)) ∙ sym (whole-mul m (D row))
 
       one : (n : Num) → n *N (conjN d *N wholeN m) ≡ wholeN m *N (n *N conjN d)
       one n = solve Nring 3 (λ n c m. n ⊗ (c ⊗ m)) (λ n c m. m ⊗ (n ⊗ c)) tt n (conjN d) (wholeN m)

@@ -2,7 +2,7 @@
 use mathlib.Core.Bool.{Bool, true, false}
 use mathlib.Core.List.{[], _∷_}
 use mathlib.Core.Logic.{_⊎_, inl, inr}
-use mathlib.Core.Path.{_≡_, refl, sym, subst}
+use mathlib.Core.Path.{_≡_, refl}
 use Prim.Native.Nat.{ℕ, zero, suc}
 use lib.IntN.{ℤ}
 use Rattle.lemmas.proofs.Bools.{both, untrue, not-both}
@@ -10,17 +10,15 @@ use Rattle.lemmas.proofs.Ring.{mul-zer}
 use Rattle.lemmas.proofs.Solver.{_⊗_, ⊝_}
 use Rattle.lemmas.proofs.Solve.{solve}
 use Rattle.turn.specs.declared.Num.{Num}
-use Rattle.turn.specs.Number.{wholeN, _*N_, conjN}
+use Rattle.turn.specs.Number.{_*N_}
 use Rattle.turn.proofs.Ring.{Nring}
 use Rattle.paper.specs.declared.Ohms.{Ohms}
 use Rattle.paper.specs.declared.Fault.{Fault}
 use Rattle.paper.specs.Bytes.{oneOf}
 use Rattle.paper.specs.Chain.{unearthed}
-use Rattle.paper.specs.Fault.{nilN, numOf, Short, unearthedShorts, shortOf, D, liftOf}
+use Rattle.paper.specs.Fault.{nilN, numOf, Short, unearthedShorts, shortOf, liftOf}
 use Rattle.paper.specs.Phase.{Asked, onlyIf}
 use Rattle.follows.proofs.Lists.{On, on-none, on-cases}
-use Rattle.follows.proofs.Row.{kindAt, zfAt, by-row}
-use Rattle.follows.proofs.Divisor.{D-square}
 use Rattle.laws.specs.Values.{Same}
 use Rattle.laws.specs.Laws.{lifts}
 use Rattle.laws.proofs.Fractions.{same-nil, same-minus, same-only}
@@ -28,10 +26,6 @@ use Rattle.laws.proofs.Fractions.{same-nil, same-minus, same-only}
 -- ---- the row of a fault at a board of these impedances, without earth return (`true`) or with one
 abbrev pub rowAt : Fault → Ohms → Ohms → Ohms → Bool → ℕ → Short
 rowAt f z1 z2 z0 u kind = shortOf (numOf z1) (numOf z2) (numOf z0) (numOf (f .zf)) u kind
-
-pub row-square : (f : Fault) (z1 z2 z0 : Ohms) (u : Bool) (kind : ℕ) → let s = rowAt f z1 z2 z0 u kind in s .divisor *N conjN (s .divisor) ≡ wholeN (D s)
-row-square f z1 z2 z0 u kind =
-    subst (λ (s : Short). s .divisor *N conjN (s .divisor) ≡ wholeN (D s)) (sym (by-row z1 z2 z0 (f .zf) u kind)) (D-square z1 z2 z0 (zfAt u kind (f .zf)) (kindAt u kind))
 
 -- without earth return no row has current to earth
 pub no-earth-row : (f : Fault) (z1 z2 z0 : Ohms) (kind : ℕ) → rowAt f z1 z2 z0 true kind .above .s0 ≡ nilN
