@@ -138,19 +138,6 @@ module _ (a : Asked) (fair : Fair a) (E : ℤ) (v : Values) where
           tree : InTree
           tree = left-keeps (part-tree boards) (term0 boards) n U C top same-top (partChain boards k) F0 (in-part a fair v on out) (λ j m l. h j m l ∙ sym (turned j))
 
-    -- and the premise
-    pub quiet-zero : Open a F up → Left → Quiet a v
-    unfolding numOf
-    quiet-zero free h r m l u premise = h r m l ∙ (λ i. nothing-shared (joined boards r k) refl i +N not-lifted (joined boards r k) refl i) ∙ +N-zero nilN
-      where
-        nothing-shared : (c : Bool) → joined boards r k ≡ c → negN (numOf (shared0 boards r k) *N F0) ≡ nilN
-        nothing-shared true c = ap (λ f. negN (numOf (shared0 boards r k) *N f)) (free .no-out (joined-earth boards r k c u)) ∙ solve Nring 1 (λ z. ⊝ (z ⊗ con (pos 0))) (λ z. con (pos 0)) tt (numOf (shared0 boards r k))
-        nothing-shared false c = ap (λ z. negN (numOf z *N F0)) (shared-apart boards k r (apart-head boards r k c)) ∙ solve Nring 1 (λ f. ⊝ (con (pos 0) ⊗ f)) (λ f. con (pos 0)) tt F0
-
-        not-lifted : (c : Bool) → joined boards r k ≡ c → top r ≡ nilN
-        not-lifted true c = only-nil (joined boards r k) (free .no-lift (untrue (lifts a) (λ t. not-both (ap₂ (λ x y. x && y) t c) premise)))
-        not-lifted false c = only-gone up c
-
   -- ---- by the premise the lift is the voltage of the head of k's part, and 0 unless R-2 frees it
   abbrev pub liftedTo : Num
   liftedTo = onlyIf (unearthed boards k) (U (partHead boards k))
@@ -164,7 +151,7 @@ module _ (a : Asked) (fair : Fair a) (E : ℤ) (v : Values) where
           let head = partHead boards k in
           let w = head-between boards k (fair .k-from) in
           let kn = fair .k-to in
-          only-nil (unearthed boards k) (quiet head (w .0) (omega arith) (ap isNone (earth-same boards head k (head-head boards k (fair .k-from))) ∙ u) (ap (λ b. b && joined boards head k) h))
+          only-nil (unearthed boards k) (quiet head (w .0) (omega arith) (ap isNone (earth-same boards head k (head-head boards k (fair .k-from))) ∙ u) (rw h refl))
 
   -- a head that blocks is k's own, or the premise speaks of it
   quiet-heads : Quiet a v → (q : ℕ) → suc q ≤ n → zeroOf boards (suc q) ≡ none → U (suc q) ≡ top liftedTo (suc q)
@@ -178,8 +165,21 @@ module _ (a : Asked) (fair : Fair a) (E : ℤ) (v : Values) where
       go true c =
           ap U (sym (is-blocked boards q e .zero-head) ∙ joined-head boards (suc q) k c)
           ∙ sym (only-there liftedTo c ∙ only-there (U (partHead boards k)) (joined-earth boards (suc q) k c blocked))
-      go false c = quiet (suc q) (omega arith) l blocked (ap (λ b. lifts a && b) c ∙ and-false (lifts a)) ∙ sym (only-gone liftedTo c)
+      go false c = quiet (suc q) (omega arith) l blocked (rw c (and-false (lifts a))) ∙ sym (only-gone liftedTo c)
 
   pub voltages-zero : Laws a E v → Quiet a v → Everywhere a (λ j. U j ≡ negN (numOf (shared0 boards j k) *N F0) +N onlyIf (joined boards j k) liftedTo)
   voltages-zero laws quiet =
       left-zero liftedTo (carries-zero a fair v (laws .kirchhoff0) (laws .blocked)) (nothing-out a fair v (laws .kirchhoff0) (laws .blocked)) (only-gone (U (partHead boards k))) (laws .ohm0) (quiet-heads quiet)
+
+  -- ---- and voltages of that form keep the premise
+  pub quiet-zero : (up : Num) → Open a F up → Left up → Quiet a v
+  unfolding numOf
+  quiet-zero up free h r m l u premise = h r m l ∙ (λ i. nothing-shared (joined boards r k) refl i +N not-lifted (joined boards r k) refl i) ∙ +N-zero nilN
+    where
+      nothing-shared : (c : Bool) → joined boards r k ≡ c → negN (numOf (shared0 boards r k) *N F0) ≡ nilN
+      nothing-shared true c = ap (λ f. negN (numOf (shared0 boards r k) *N f)) (free .no-out (joined-earth boards r k c u)) ∙ solve Nring 1 (λ z. ⊝ (z ⊗ con (pos 0))) (λ z. con (pos 0)) tt (numOf (shared0 boards r k))
+      nothing-shared false c = ap (λ z. negN (numOf z *N F0)) (shared-apart boards k r (apart-head boards r k c)) ∙ solve Nring 1 (λ f. ⊝ (con (pos 0) ⊗ f)) (λ f. con (pos 0)) tt F0
+
+      not-lifted : (c : Bool) → joined boards r k ≡ c → top up r ≡ nilN
+      not-lifted true c = only-nil (joined boards r k) (free .no-lift (untrue (lifts a) (λ t. not-both (ap₂ (λ x y. x && y) t c) premise)))
+      not-lifted false c = only-gone up c
