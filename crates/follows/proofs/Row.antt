@@ -14,7 +14,7 @@ use Rattle.paper.specs.declared.Ohms.{Ohms}
 use Rattle.paper.specs.declared.Seq.{Seq}
 use Rattle.paper.specs.Kind.{ohms}
 use Rattle.paper.specs.Bounds.{AtMost}
-use Rattle.paper.specs.Fault.{nilN, numOf, seq, Short, noShort, G, Δ, shorts, unearthedShorts, shortOf, D, currents}
+use Rattle.paper.specs.Fault.{nilN, numOf, seq, Short, noShort, G, Δ, shorts, unearthedShorts, shortOf, D, currents, liftOf}
 
 -- P speaks of a divisor and of what stands above the line
 module _ (Z1 Z2 Z0 Zf : Num) (P : Num → Seq → Type 0) where
@@ -53,6 +53,19 @@ module _ (z1 z2 z0 zf : Ohms) where
 
   abbrev pub IOf : ℕ → Seq
   IOf kind = currents (rowOf kind)
+
+-- ---- a kind that is clear of earth, neither 1 nor 3: 0, 2, or no kind
+pub clear-of-earth : (P : ℕ → Type 0) → P 0 → P 2 → ((k : ℕ) → P (suc (suc (suc (suc k))))) → (kind : ℕ) → (kind ≡ 1 → ⊥) → (kind ≡ 3 → ⊥) → P kind
+clear-of-earth P p0 p2 p4 zero h1 h3 = p0
+clear-of-earth P p0 p2 p4 (suc zero) h1 h3 = absurd (h1 refl)
+clear-of-earth P p0 p2 p4 (suc (suc zero)) h1 h3 = p2
+clear-of-earth P p0 p2 p4 (suc (suc (suc zero))) h1 h3 = absurd (h3 refl)
+clear-of-earth P p0 p2 p4 (suc (suc (suc (suc k)))) h1 h3 = p4 k
+
+-- it lifts nothing
+pub clear-lifts-nothing : (kind : ℕ) (w : Num) → (kind ≡ 1 → ⊥) → (kind ≡ 3 → ⊥) → liftOf kind w ≡ nilN
+unfolding liftOf
+clear-lifts-nothing kind w = clear-of-earth (λ n. liftOf n w ≡ nilN) refl refl (λ k. refl) kind
 
 -- ---- at a board without earth return
 -- the kind and the Zf that a fault has there: of kind 1 the row of no kind, of kind 3 that of kind 2 with Zf = 0

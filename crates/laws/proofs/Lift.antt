@@ -19,6 +19,7 @@ use Rattle.paper.specs.Chain.{unearthed}
 use Rattle.paper.specs.Fault.{nilN, numOf, Short, unearthedShorts, shortOf, liftOf}
 use Rattle.paper.specs.Phase.{Asked, onlyIf}
 use Rattle.follows.proofs.Lists.{On, on-none, on-cases}
+use Rattle.follows.proofs.Row.{clear-lifts-nothing}
 use Rattle.laws.specs.Values.{Same}
 use Rattle.laws.specs.Laws.{lifts}
 use Rattle.laws.proofs.Fractions.{same-nil, same-minus, same-only}
@@ -52,13 +53,9 @@ not-freed u kind a b f = go (f .1)
     go (inr e) = b e
 
 pub unlifted : (u : Bool) (kind : ℕ) (w : Num) → (Freed u kind → ⊥) → liftAt u kind w ≡ nilN
-unfolding liftOf onlyIf
+unfolding onlyIf
 unlifted false kind w un = refl
-unlifted true zero w un = refl
-unlifted true (suc zero) w un = absurd (un (refl, inl refl))
-unlifted true (suc (suc zero)) w un = refl
-unlifted true (suc (suc (suc zero))) w un = absurd (un (refl, inr refl))
-unlifted true (suc (suc (suc (suc kind)))) w un = refl
+unlifted true kind w un = clear-lifts-nothing kind w (λ e. un (refl, inl e)) (λ e. un (refl, inr e))
 
 -- these are the faults of `lifts`
 module _ (q : Asked) where

@@ -2,11 +2,11 @@
 use mathlib.Core.List.{List, [], _∷_, _++_}
 use mathlib.Core.Option.{Option, none, some}
 use mathlib.Core.Path.{_≡_, refl, sym, _∙_, ap}
-use Prim.Native.Nat.{ℕ, zero, suc, _+_, _*_, _≤_, _<_}
+use Prim.Native.Nat.{ℕ, zero, suc, _+_, _*_, _<_}
 use native.Mathlib.Omega.{arith}
 use lib.ListN.{length, getD, take, drop}
 use lib.Dec.{lit<}
-use lib.Seq.{getD-take, getD-drop, take-suc, drop-cons, drop-drop, drop-length, take-length, split-at}
+use lib.Seq.{getD-take, getD-drop, take-suc, drop-cons, drop-drop, drop-length, split-at}
 use Rattle.paper.specs.declared.Board.{Board}
 use Rattle.paper.specs.declared.Refusal.{Refusal}
 use Rattle.paper.specs.Rows.{_then_}

@@ -2,7 +2,7 @@
 use mathlib.Core.Bool.{Bool, true, false}
 use mathlib.Core.List.{List, [], _∷_}
 use Prim.Native.Nat.{ℕ, _+_, _*_, _%_}
-use lib.IntN.{ℤ, pos}
+use lib.IntN.{ℤ}
 use Rattle.turn.specs.declared.Num.{Num}
 use Rattle.turn.specs.Number.{wholeN, _+N_, _-N_, negN, _*N_, turnN}
 use Rattle.paper.specs.declared.Head.{Head}

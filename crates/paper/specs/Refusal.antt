@@ -1,5 +1,5 @@
 -- 01, 'What the caller gets': the refusal table, 1 to 19, in its order (02, R-2: "18 is withdrawn, never reused"). Assumes nothing.
-use mathlib.Core.Bool.{Bool, true, false, not, _&&_, _||_}
+use mathlib.Core.Bool.{Bool, not, _&&_, _||_}
 use mathlib.Core.List.{List, [], _∷_, _++_}
 use mathlib.Core.Option.{Option, none}
 use Prim.Native.Nat.{ℕ, suc, _+_, _*_}
@@ -62,7 +62,7 @@ impedanceWrong b = partOver 4095 (b .z1) || partOver 4095 (b .z2) || partOver 40
 
 -- "a part of Z1, Z2 or an existing Z0 over 4,095" (a Z0 that exists starts at the head of the part, and is summed from there)
 unfoldable pub sumWrong : Boards → ℕ → Bool
-sumWrong bs r = partOver 4095 (Z1 bs r) || partOver 4095 (Z2 bs r) || isStart (zeroOf bs (partHead bs r)) && partOver 4095 (sumΩ (term0 bs) (partChain bs r))
+sumWrong bs r = partOver 4095 (Z1 bs r) || partOver 4095 (Z2 bs r) || (isStart (zeroOf bs (partHead bs r)) && partOver 4095 (sumΩ (term0 bs) (partChain bs r)))
 
 -- 6 to 11, asked of a board that is to stand behind the boards before it: whoever reads, writes or adds one asks these
 unfoldable pub boardTests : Boards → Board → List Test

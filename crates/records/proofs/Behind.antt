@@ -1,5 +1,5 @@
 -- Record r behind the boards before it: its rules 7 and 8 by where its labels stand among all boards, and its node from its feeder's. Assumes nothing.
-use mathlib.Core.Bool.{Bool, true, false, not, cond}
+use mathlib.Core.Bool.{cond}
 use mathlib.Core.List.{_∷_, _++_}
 use mathlib.Core.Path.{_≡_, refl, sym, _∙_}
 use Prim.Native.Nat.{ℕ, suc, _+_, _≤_}
@@ -10,7 +10,7 @@ use Rattle.paper.specs.declared.Ohms.{Ohms}
 use Rattle.paper.specs.declared.Board.{Board}
 use Rattle.paper.specs.Label.{Label}
 use Rattle.paper.specs.Kind.{ohms, _+Ω_, Term, Zero, starts, goes-on, none, kindOf, term}
-use Rattle.paper.specs.Chain.{Boards, placeOf, lookFrom, feederOf, partHead, Earth, isNone, unearthed, Z1, Z2, Z0, turnOf}
+use Rattle.paper.specs.Chain.{Boards, placeOf, lookFrom, feederOf, partHead, Earth, isNone, Z1, Z2, Z0, turnOf}
 use Rattle.follows.proofs.Places.{same-label, look-here, place-most, place-stays, place-behind, Looked, looked, missing, found}
 use Rattle.follows.proofs.Parts.{ZeroIs}
 use Rattle.follows.proofs.Next.{feeder-next, Z1-next, Z2-next, turn-next, next-starts, next-tied, next-blocked}

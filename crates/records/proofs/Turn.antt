@@ -1,9 +1,9 @@
 -- A turn of the reader's loop, in the code's own terms: what it reads is the record's, and so its step goes on or refuses the network. Assumes nothing.
-use mathlib.Core.List.{List, []}
+use mathlib.Core.List.{List}
 use mathlib.Core.Logic.{_⊎_}
 use mathlib.Core.Option.{some}
 use mathlib.Core.Path.{_≡_, refl, sym, _∙_, ap, subst}
-use Prim.Native.Nat.{ℕ, zero, suc, _+_, _*_, _-_, _≤_, _<_}
+use Prim.Native.Nat.{ℕ, suc, _+_, _*_, _-_, _≤_, _<_}
 use native.Mathlib.Numerals.{add-one}
 use native.Mathlib.Omega.{arith}
 use lib.ListN.{length, getD, set}
@@ -16,7 +16,6 @@ use Rattle.label.specs.Places.{placesOf}
 use Rattle.label.proofs.PlacesLaws.{own-at, fed-at}
 use Rattle.node.specs.declared.Node.{Node}
 use Rattle.records.specs.declared.Step.{Step}
-use Rattle.records.specs.declared.Judged.{Judged}
 use Rattle.node.specs.Node.{nodeOf, noNode, UpSmall}
 use Rattle.records.specs.Rules.{earlier, stepOf}
 use Rattle.node.specs.Tables.{table, nodesFrom}

@@ -1,10 +1,10 @@
 -- `network::read` meets its contract: the head is refused, a record is refused, or all are kept. Assumes nothing.
-use mathlib.Core.Path.{_≡_, sym, _∙_, ap}
-use Prim.Native.Nat.{ℕ, _+_, _*_, _≤_}
+use mathlib.Core.Path.{sym, _∙_, ap}
+use Prim.Native.Nat.{ℕ, _+_, _*_}
 use native.Mathlib.Omega.{arith}
 use Rattle.paper.specs.declared.Head.{Head}
 use Rattle.label.specs.Places.{placesOf}
-use Rattle.network.proofs.Head.{HeadKept, kept-head}
+use Rattle.network.proofs.Head.{kept-head}
 use Rattle.network.proofs.Whole.{read-short, read-head, read-refused, read-accepted, first-boards}
 use borrow.Author.Needs.{needs}
 use Rattle.network.proofs.read.Statement.{statement}

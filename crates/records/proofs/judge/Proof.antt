@@ -1,20 +1,17 @@
 -- `records::judge` meets its contract: after i turns i records have passed. Assumes nothing.
-use mathlib.Core.List.{List, []}
+use mathlib.Core.List.{List}
 use mathlib.Core.Logic.{_⊎_, inl, inr, ⊎-elim}
-use mathlib.Core.Path.{_≡_, refl, sym, _∙_, ap, subst}
-use Prim.Native.Nat.{ℕ, suc, _+_, _*_, _-_, _≤_, _<_}
+use mathlib.Core.Path.{_≡_, sym, _∙_, ap, subst}
+use Prim.Native.Nat.{ℕ, _+_, _*_, _-_, _≤_, _<_}
 use native.Mathlib.Omega.{arith}
 use borrow.Author.Needs.{needs}
-use lib.ListN.{length}
 use Rattle.node.specs.declared.Node.{Node}
 use Rattle.paper.specs.Bytes.{u16At}
 use Rattle.paper.specs.File.{boardOf}
 use Rattle.file.proofs.Decoded.{part-is, part-length}
-use Rattle.paper.specs.Chain.{noBoard}
 use Rattle.label.specs.declared.places.Places.{Places}
 use Rattle.node.specs.Node.{nodeOf, noNode}
 use Rattle.records.specs.Rules.{earlier, stepOf}
-use Rattle.node.specs.Tables.{table, emptyBoard}
 use Rattle.node.proofs.Tables.{empty-table}
 use Rattle.records.proofs.Reading.{Read, read-none, before, feeder}
 use Rattle.node.proofs.Records.{count}

@@ -1,18 +1,15 @@
 -- `fault::unearthed::kind_at` meets its contract. Assumes nothing.
 use mathlib.Core.List.{[], _∷_}
 use mathlib.Core.Path.{_≡_, refl, sym}
-use Prim.Native.Nat.{ℕ, zero, suc}
+use Prim.Native.Nat.{ℕ}
 use lib.ListN.{getD}
+use Rattle.follows.proofs.Row.{clear-of-earth}
 use Rattle.fault.proofs.unearthed.kind_at.Statement.{statement}
 use Rattle.fault.proofs.unearthed.kind_at.Tie as tie
 
--- clear of earth, or no kind
+-- clear of earth it stays as it is
 as-ever : (kind : ℕ) → (kind ≡ 1 → ⊥) → (kind ≡ 3 → ⊥) → getD (0 ∷ 4 ∷ 2 ∷ 2 ∷ []) kind kind ≡ kind
-as-ever zero h1 h3 = refl
-as-ever (suc zero) h1 h3 = absurd (h1 refl)
-as-ever (suc (suc zero)) h1 h3 = refl
-as-ever (suc (suc (suc zero))) h1 h3 = absurd (h3 refl)
-as-ever (suc (suc (suc (suc kind)))) h1 h3 = refl
+as-ever = clear-of-earth (λ n. getD (0 ∷ 4 ∷ 2 ∷ 2 ∷ []) n n ≡ n) refl refl (λ k. refl)
 
 returns : tie.Need-returns
 returns c = rw (c .if1 .taken)

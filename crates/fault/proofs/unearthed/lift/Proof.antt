@@ -1,26 +1,17 @@
 -- `fault::unearthed::lift` meets its contract, kind by kind. Assumes nothing.
-use mathlib.Core.Path.{_≡_, refl, sym, ap, _∙_}
-use Prim.Native.Nat.{ℕ, zero, suc}
+use mathlib.Core.Path.{_≡_, sym, ap, _∙_}
 use lib.IntN.{ℤ}
 use mir.Facts.{toZ-ofZ}
 use borrow.Author.Needs.{needs}
 use Rattle.lemmas.proofs.Words.{kept}
 use Rattle.turn.specs.declared.Num.{Num}
 use Rattle.turn.specs.Number.{wholeN, negN, _-N_, _*N_}
-use Rattle.paper.specs.Fault.{nilN, numOf, liftOf}
+use Rattle.paper.specs.Fault.{numOf, liftOf}
 use Rattle.paper.specs.Phase.{onlyIf}
+use Rattle.follows.proofs.Row.{clear-lifts-nothing}
 use Rattle.fits.proofs.Needs.{for-first, within-is}
 use Rattle.fault.proofs.unearthed.lift.Statement.{statement}
 use Rattle.fault.proofs.unearthed.lift.Tie as tie
-
--- clear of earth, or no kind
-no-lift : (kind : ℕ) (w : Num) → (kind ≡ 1 → ⊥) → (kind ≡ 3 → ⊥) → liftOf kind w ≡ nilN
-unfolding liftOf
-no-lift zero w h1 h3 = refl
-no-lift (suc zero) w h1 h3 = absurd (h1 refl)
-no-lift (suc (suc zero)) w h1 h3 = refl
-no-lift (suc (suc (suc zero))) w h1 h3 = absurd (h3 refl)
-no-lift (suc (suc (suc (suc kind)))) w h1 h3 = refl
 
 -- W1, of D as it was given
 module _ (s : tie.Start) where
@@ -69,7 +60,7 @@ unfolding onlyIf
 returns-4 c =
     let m = c .before in
     let n = m .match .rest in
-    rw (m .before .if1 .left) (c .whole2 .ensures ∙ sym (no-lift _ _ (n .0 .1) (n .1)))
+    rw (m .before .if1 .left) (c .whole2 .ensures ∙ sym (clear-lifts-nothing _ _ (n .0 .1) (n .1)))
 
 pub lift-spec : {M : Type 1} → statement M
 lift-spec =
