@@ -5,11 +5,10 @@ pub mod places;
 pub mod search;
 
 ghost use mathlib.Core.Path.{_≡_};
+ghost use Rattle.lemmas.specs.Little.{littleEndian};
 ghost use Rattle.lemmas.specs.Table.{tab};
 ghost use Rattle.paper.specs.Bytes.{u8At, sameBytes};
 ghost use Rattle.paper.specs.Label.{spaces, sameLabel};
-ghost use Rattle.label.specs.Words.{littleEndian};
-use file::field::SPACE;
 use file::field::pair;
 
 // One load each once compiled, this and the next.
@@ -23,11 +22,11 @@ fn first_eight(l: [u8; 12]) -> u64
     a + 65536 * (b + 65536 * (c + 65536 * d))
 }
 
-fn last_four(l: [u8; 12]) -> u32
+fn last_four(l: [u8; 12]) -> u64
     ensures { λ r. ⌜ r ≡ littleEndian (tab (u8At l) 8 4) ⌝ }
 {
-    let a = pair(l[8], l[9]) as u32;
-    let b = pair(l[10], l[11]) as u32;
+    let a = pair(l[8], l[9]) as u64;
+    let b = pair(l[10], l[11]) as u64;
     a + 65536 * b
 }
 
@@ -37,9 +36,9 @@ pub(crate) fn same_label(a: [u8; 12], b: [u8; 12]) -> bool
     (first_eight(a) == first_eight(b)) & (last_four(a) == last_four(b))
 }
 
+// By its bytes: a feeder of spaces is no label.
 pub fn is_spaces(l: [u8; 12]) -> bool
     ensures { λ r. ⌜ r ≡ sameBytes l spaces ⌝ }
 {
-    let spaces = [SPACE; 12];
-    same_label(l, spaces)
+    (first_eight(l) == 0x2020_2020_2020_2020) & (last_four(l) == 0x2020_2020)
 }

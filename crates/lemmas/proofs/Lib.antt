@@ -10,6 +10,8 @@ pub mod Cancel
 -- how far from 0, and the signed words of the machine
 pub mod Distance
 pub mod Words
+-- numbers and their bytes
+pub mod Little
 -- tables, and lent parts of a buffer
 pub mod Table
 pub mod Over

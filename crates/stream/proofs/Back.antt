@@ -11,7 +11,8 @@ use mir.Val.{SFits}
 use Rattle.lemmas.specs.Little.{little}
 use Rattle.decimal.specs.Word.{wordOf}
 use Rattle.decimal.proofs.Stored.{little-length}
-use Rattle.decimal.proofs.Back.{same-number, word-fits, same-word}
+use Rattle.lemmas.proofs.Little.{same-number}
+use Rattle.decimal.proofs.Back.{word-fits, same-word}
 use Rattle.paper.specs.declared.Lent.{Lent}
 use Rattle.paper.specs.declared.Lent.the-variants.{NetworkBytes, FaultBytes}
 use Rattle.paper.specs.declared.Answer.{Answer}

@@ -1,7 +1,0 @@
--- The number that some bytes say, lowest first. No public contract names it. Assumes nothing.
-use mathlib.Core.List.{List, [], _∷_}
-use Prim.Native.Nat.{ℕ, _+_, _*_}
-
-abbrev pub littleEndian : List ℕ → ℕ
-littleEndian [] = 0
-littleEndian (x ∷ xs) = x + 256 * littleEndian xs
