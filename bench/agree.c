@@ -55,12 +55,27 @@ static int each_fault(question *q, int n) {
     return asked;
 }
 
+/* A byte of another value, or the bit of a letter's case changed, in a label or not. */
+static void damage(question *q, int small) {
+    uint8_t *s = &q->network[chance((uint32_t)q->network_len)];
+    switch (chance(4)) {
+    case 0:
+        *s ^= 0x20;
+        break;
+    case 1:
+        q->fault[2 + chance(12)] ^= 0x20;
+        break;
+    default:
+        *s = (uint8_t)chance(small ? 6 : 256);
+    }
+}
+
 /* One to three bytes changed: mostly refused, each time by another rule. */
 static int damaged(const question *whole) {
     for (int i = 0; i < 200; i++) {
         question q = *whole;
         for (uint32_t changes = 1 + chance(3); changes; changes--)
-            q.network[chance((uint32_t)q.network_len)] = (uint8_t)chance(i % 2 ? 6 : 256);
+            damage(&q, i % 2);
         if (!agree(&q))
             return 0;
     }

@@ -78,7 +78,7 @@ static void spoil_head(list *l) {
 static void spoil_board(list *l) {
     ranjupeli_board *b = &l->boards[chance((uint32_t)l->n)], *other = &l->boards[chance((uint32_t)l->n)];
     ranjupeli_ohms *z[4] = {&b->z1, &b->z2, &b->z0, &b->zn};
-    switch (chance(8)) {
+    switch (chance(9)) {
     case 0:
         memcpy(b->label, other->label, 12);
         break;
@@ -99,6 +99,9 @@ static void spoil_board(list *l) {
         break;
     case 6:
         z[2 + chance(2)]->x = (uint16_t)chance(1500);
+        break;
+    case 7:
+        (chance(2) ? b->label : b->feeder)[chance(12)] ^= 0x20;
         break;
     default:
         ((uint8_t *)b)[chance(sizeof *b)] = (uint8_t)chance(256);

@@ -1,4 +1,4 @@
-/* Networks of a shape: cables, with a transformer here and there, under labels that differ in their last bytes alone. */
+/* Networks of a shape: cables, with a transformer here and there, under labels that differ in their last three letters alone, and each time they are typed in case. */
 #include "bench.h"
 #include <string.h>
 
@@ -25,9 +25,12 @@ static void put_ohms(uint8_t *s, unsigned r, unsigned x) {
 }
 
 static void put_label(uint8_t *s, int place) {
-    memcpy(s, "HALL-WEST000", 12);
-    for (int i = 11; place > 0; i--, place /= 10)
-        s[i] = (uint8_t)('0' + place % 10);
+    memcpy(s, "HALL-WESTAAA", 12);
+    for (int i = 11; place > 0; i--, place /= 26)
+        s[i] = (uint8_t)('A' + place % 26);
+    for (int i = 0; i < 12; i++)
+        if (s[i] != '-' && chance(2))
+            s[i] |= 0x20;
 }
 
 static int feeder_of(int shape, int r) {

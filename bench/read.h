@@ -8,7 +8,7 @@ enum { HEAD = 8, RECORD = 44, FAULT = 20, BOARDS = 256, MOST = 4095, MOST_ZF = 1
 
 typedef ranjupeli_ohms ohms;
 
-/* twelve bytes as two words: two comparisons tell two labels apart */
+/* twelve bytes as two words, their letters as capitals: two comparisons tell two labels apart */
 typedef struct {
     uint64_t first;
     uint32_t last;
@@ -50,11 +50,19 @@ static inline ohms ohms_at(const uint8_t *s) {
     return (ohms){u16_at(s), u16_at(s + 2)};
 }
 
+/* a to z of eight bytes read as A to Z: of each byte bit 7 says whether it is a small letter, and two places down it is the bit of its case */
+static inline uint64_t capitals(uint64_t w) {
+    const uint64_t each = 0x0101010101010101u;
+    uint64_t seven = w & 0x7f * each, small = (seven + 0x1f * each) & ~(seven + 0x05 * each) & ~w & 0x80 * each;
+    return w ^ small >> 2;
+}
+
 static inline label label_at(const uint8_t *s) {
-    label l;
-    memcpy(&l.first, s, 8);
-    memcpy(&l.last, s + 8, 4);
-    return l;
+    uint64_t first;
+    uint32_t last;
+    memcpy(&first, s, 8);
+    memcpy(&last, s + 8, 4);
+    return (label){capitals(first), (uint32_t)capitals(last)};
 }
 
 static inline record record_at(const uint8_t *s) {

@@ -24,8 +24,9 @@ static inline void print_phases(const uint8_t *label, char what, const int64_t *
 }
 
 static inline void print_accepted(ranjupeli_answer a, const uint8_t *network, const uint8_t *fault, const int64_t *numbers) {
+    /* the first line's label as it was typed in the fault, the boards' as in the network */
     printf("FAULT ");
-    print_label(ranjupeli_shown(a, network, fault).bytes + 2);
+    print_label(fault + 2);
     printf(" %d %d %llu\n", fault[14], fault[15], (unsigned long long)a.amps);
     printf("D %lld\n", (long long)numbers[0]);
     print_phases(NULL, 'I', numbers + 1);

@@ -42,14 +42,14 @@ enum {
     RANJUPELI_NETWORK_LENGTH = 4,   /* length not 8 + 44 N */
     RANJUPELI_BOARD_MARK = 5,       /* board mark */
     RANJUPELI_LABEL_FORM = 6,       /* form of a record's own label */
-    RANJUPELI_LABEL_USED = 7,       /* label used earlier */
+    RANJUPELI_LABEL_USED = 7,       /* label used earlier, in any case */
     RANJUPELI_FEEDER = 8,           /* feeder: none of the source, an earlier label of others */
     RANJUPELI_KIND_OR_CLOCK = 9,    /* kind or clock, or kind in the wrong record */
     RANJUPELI_IMPEDANCE = 10,       /* impedance over 4,095 or against the kind's rule */
     RANJUPELI_SUM = 11,             /* part of Z1, Z2 or an existing Z0 over 4,095 */
     RANJUPELI_FAULT_LENGTH = 12,    /* fault not 20 bytes */
     RANJUPELI_FAULT_MARK = 13,      /* fault mark */
-    RANJUPELI_UNKNOWN_BOARD = 14,   /* no board has the label */
+    RANJUPELI_UNKNOWN_BOARD = 14,   /* no board has the label, in any case */
     RANJUPELI_FAULT_KIND = 15,      /* fault kind over 3 */
     RANJUPELI_FAULT_PHASE = 16,     /* phase over 2, or kind 0 with phase not 0 */
     RANJUPELI_FAULT_IMPEDANCE = 17, /* part of Zf over 1,365 */
@@ -111,8 +111,8 @@ typedef struct {
     ranjupeli_ohms z2;  /* in negative sequence: as z1, but for a set */
     ranjupeli_ohms z0;  /* in zero sequence, with the way back through the protective conductor: often several times z1 */
     ranjupeli_ohms zn;  /* between star point and earth, entered once; 0 for a plain strap, and for a cable */
-    uint8_t label[12];  /* what is written on it: 1 to 12 visible characters, then spaces; no earlier board has the same */
-    uint8_t feeder[12]; /* the label of the board that feeds it; twelve spaces for the source */
+    uint8_t label[12];  /* what is written on it: 1 to 12 visible characters, then spaces; no earlier board has the same, A and a being the same */
+    uint8_t feeder[12]; /* the label of the board that feeds it, in any case; twelve spaces for the source */
     uint8_t kind;       /* RANJUPELI_SOURCE to RANJUPELI_BLOCKING */
     uint8_t clock;      /* the number of a transformer's vector group (Dyn11: 11); 0 for sources, cables and star/star */
 } ranjupeli_board;

@@ -47,6 +47,12 @@ static void say_boards(void) {
     ranjupeli_label(boards[2].label, "B00001");
     say(", a used label", 230, 1000, 3, sizeof out);
     plan();
+    ranjupeli_label(boards[2].label, "b00001");
+    say(", a label used in another case", 230, 1000, 3, sizeof out);
+    plan();
+    ranjupeli_label(boards[2].feeder, "b00001");
+    say(", a feeder in another case", 230, 1000, 3, sizeof out);
+    plan();
     ranjupeli_label(boards[2].feeder, "B00002");
     say(", a board that feeds itself", 230, 1000, 3, sizeof out);
     plan();

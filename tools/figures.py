@@ -1,5 +1,5 @@
 #!/usr/bin/env python3
-"""Writes crates/figures/stdin and stdout: the figures of 01 that are run, those of R-2, 003's one-phase example, and what answering each gives by the oracle."""
+"""Writes crates/figures/stdin and stdout: the figures of 01 that are run, those of R-2 and R-3, 003's one-phase example, and what answering each gives by the oracle."""
 import os
 import oracle
 from oracle import fault, head, record, w16
@@ -84,6 +84,14 @@ for p in range(3):
 for name in ('GEN', 'BOOTH-WEST-1', 'UNDER', 'HALL', 'STAR'):
     for kind in (1, 3):
         case(SIX, fault(name, kind, 2, (5, 6)), 13 + 24 * 6)
+# 02, R-3: Booth-West-1 is BOOTH-WEST-1 where a fault names it (14), where a board is fed from it (8) and where a second one has it (7); bytes beside the letters stay apart
+for name in ('Booth-West-1', 'booth-west-1', 'BOOTH-WESt-1', 'BOOTH\rWEST-1', 'BOOTH-WEST\x111'):
+    case(THREE, fault(name, 1, 0), FULL)
+TENT = record('Tent', 'Booth-West-1', 2, 0, (1, 1), (1, 1), (1, 1), NONE)
+case(net(GEN, BOOTH, TENT), fault('TENT', 3, 1), FULL)
+case(net(GEN, BOOTH, record('Booth-West-1', 'GEN', 2, 0, (1, 1), (1, 1), (1, 1), NONE)), fault('GEN', 0, 0), FULL)
+for a, b in ('@`', '[{', 'Aa', 'Zz'):
+    case(net(GEN, record('B' + a, 'gen', 2, 0, J(1), J(1), J(1), NONE)), fault('b' + b, 1, 0), 13 + 24 * 2)
 # 003, one phase to earth: Z 1696, 1696, 1999 reactive, 5.5648 per unit in all: 1,000 V and 10 microohms make it 55,648 A
 case(net(record('G', '', 0, 0, J(1696), J(1696), J(1999), NONE), volts=1000, unit=10), fault('G', 1, 0), 37)
 # a network refused before its fault is looked at

@@ -57,6 +57,11 @@ def formed(label):
     return 1 <= len(text) and all(0x21 <= c <= 0x7E for c in text)
 
 
+def same(a, b):
+    """02, R-3: all twelve bytes agree after a to z are read as A to Z (bytes.upper folds these 26 and nothing else)"""
+    return bytes(a).upper() == bytes(b).upper()
+
+
 CLOCKS = {0: [0], 1: [0], 2: [0], 3: [0], 4: [1, 3, 5, 7, 9, 11], 5: list(range(12))}
 
 
@@ -107,14 +112,14 @@ def judged(board, r, before, part):
 
     if not formed(label):
         refuse(6)
-    if any(x['label'] == label for x in before[1:]):
+    if any(same(x['label'], label) for x in before[1:]):
         refuse(7)
     fed = 0
     if r == 1:
         if feeder != b' ' * 12:
             refuse(8)
     else:
-        found = [i for i in range(1, r) if before[i]['label'] == feeder]
+        found = [i for i in range(1, r) if same(before[i]['label'], feeder)]
         if not found:
             refuse(8)
         fed = found[0]
@@ -169,7 +174,7 @@ def answer(net, flt, room):
         raise Refused(12, 0, ('fault', 0, len(flt)))
     if flt[:2] != b'FT':
         raise Refused(13, 0, shown)
-    found = [i for i in range(1, count + 1) if boards[i]['label'] == flt[2:14]]
+    found = [i for i in range(1, count + 1) if same(boards[i]['label'], flt[2:14])]
     if not found:
         raise Refused(14, 0, shown)
     k, kind, p, zf = found[0], flt[14], flt[15], (u16(flt, 16), u16(flt, 18))

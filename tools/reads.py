@@ -61,6 +61,13 @@ twin = record('BOOTH-WEST-2', 'BOOTH-WEST-1', 2, 0, (1, 1), (1, 1), (1, 1), NONE
 cases += [net(SOUND + [twin]), net(SOUND + [put(twin, 2, oracle.label('BOOTH-WEST-1'))]), net(SOUND + [put(twin, 14, oracle.label('BOOTH-WEST-2'))])]
 cases += [net(SOUND[:1] + [put(SOUND[1], 14, oracle.label('STAR'))] + SOUND[2:]), net([put(SOUND[0], 14, oracle.label('GEN'))] + SOUND[1:])]
 cases += [net(SOUND[:1] + [put(SOUND[1], 14, b' ' * 12)] + SOUND[2:]), net([put(SOUND[0], 13, b'\x7f')] + SOUND[1:]), net([put(SOUND[0], 2, b'!~!~!~!~!~!~')])]
+# 02, R-3: a label typed in another case is used (7) and found (8); bytes beside the letters stay apart
+typed = [record(new, old, 2, 0, (1, 1), (1, 1), (1, 1), NONE) for new, old in (
+    ('booth-west-1', 'GEN'), ('bOOTH-WEST-2', 'Booth-West-1'), ('BOOTH-WESt-2', 'gen'), ('BOOTH-WES4-1', 'GEN'), ('TENT', 'BOOTH\rWEST-1'), ('TENT', 'BooTh-wEsT-1'))]
+cases += [net(SOUND + [t]) for t in typed]
+for a, b in ('@`', '[{', '\\|', ']}', '^~', 'Aa', 'Zz', '!A', '9Y'):
+    cases.append(net(SOUND[:1] + [record('T' + a, 'gEN', 2, 0, J(1), J(1), J(1), NONE), record('t' + b, 'T' + b, 2, 0, J(1), J(1), J(1), NONE)]))
+    cases.append(net(SOUND[:1] + [record('T' + a, 'gEN', 2, 0, J(1), J(1), J(1), NONE), record('U', 't' + b, 2, 0, J(1), J(1), J(1), NONE)]))
 # kinds: clocks, rules, earth returns
 for kind, clock in ((0, 1), (2, 1), (3, 1), (4, 0), (4, 10), (4, 12), (4, 13), (5, 0), (5, 11), (5, 12), (255, 0), (1, 0)):
     cases.append(net(SOUND[:1] + [record('X', 'GEN', kind, clock, J(9), J(9), NONE, NONE)]))

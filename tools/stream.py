@@ -34,6 +34,10 @@ solving = [
     # 02, R-2: an earth fault at a board without earth return
     (FOUR, fault('BLOCK', 1, 0), 13 + 24 * 4),
     (FOUR, fault('BLOCK', 3, 2, (1, 0)), 13 + 24 * 4),
+    # 02, R-3: a label typed in another case; the bytes shown are the file's
+    (THREE, fault('Booth-West-1', 1, 0), FULL),
+    (head(230, 1000, 2) + GEN + record('Booth-West-1', 'gEN', 2, 0, (30, 10), (30, 10), (90, 30), NONE), fault('BOOTH-WEST-1', 1, 0), 13 + 24 * 2),
+    (THREE, fault('BOOTH\rWEST-1', 1, 0), FULL),
     # a short buffer, and none
     (THREE, SOUND, FULL - 1),
     (THREE, SOUND, 0),
@@ -75,6 +79,9 @@ writing = [
     (230, 1000, [WGEN, board('BOOTH-WEST-1', 'GEN', 255, 255, (30, 10), (30, 10), (65535, 30), NONE), WHALL], LONG),
     (230, 1000, [WGEN, WBOOTH, board('HALL', 'GEN', 4, 11, J(4096), J(4096), J(20), NONE)], LONG),
     (230, 1000, [WGEN, board('BOOTH-WEST-1', 'GEN', 2, 0, (30, 10), (30, 10), (90, 4076), NONE), WGEN], LONG - 1),
+    # 02, R-3: labels typed in another case, kept as they are typed; one that is used already
+    (230, 1000, [WGEN, board('Booth-West-1', 'gEN', 2, 0, (30, 10), (30, 10), (90, 30), NONE), board('HALL', 'bOOTH-wEST-1', 4, 11, J(20), J(20), J(20), NONE)], LONG),
+    (230, 1000, [WGEN, WBOOTH, board('booth-west-1', 'GEN', 4, 11, J(20), J(20), J(20), NONE)], LONG),
     # the most of each: boards and output
     (230, 1000, MANY, 16400),
     (230, 1000, [WGEN], 16400),

@@ -42,6 +42,8 @@ fn say_boards() {
     let far = |b: &mut [Board]| b[2] = Board { z1: z, z2: z, ..b[2] };
     say_spoilt(", a label of thirteen letters", ALL, |b| b[1].label = label("BOOTH-WEST-12"));
     say_spoilt(", a used label", ALL, |b| b[2].label = b[1].label);
+    say_spoilt(", a label used in another case", ALL, |b| b[2].label = label("b00001"));
+    say_spoilt(", a feeder in another case", ALL, |b| b[2].feeder = label("b00001"));
     say_spoilt(", a board that feeds itself", ALL, |b| b[2].feeder = b[2].label);
     say_spoilt(", a cable with a clock", ALL, |b| b[1].clock = 11);
     say_spoilt(", a cable with another z2", ALL, |b| b[1].z2.x = 21);

@@ -40,7 +40,7 @@ pub enum Outcome {
     BoardMark = 5,
     /// Form of a record's own label.
     LabelForm = 6,
-    /// Label used earlier.
+    /// Label used earlier, in any case: `Hall` and `HALL` are the same.
     LabelUsed = 7,
     /// Feeder: none of the source, an earlier label of others.
     Feeder = 8,
@@ -54,7 +54,7 @@ pub enum Outcome {
     FaultLength = 12,
     /// Fault mark.
     FaultMark = 13,
-    /// No board has the label.
+    /// No board has the label, in any case.
     UnknownBoard = 14,
     /// Fault kind over 3.
     FaultKind = 15,
@@ -180,9 +180,9 @@ pub struct Board {
     pub z0: Ohms,
     /// Between star point and earth, entered once; 0 for a plain strap, and for a cable.
     pub zn: Ohms,
-    /// What is written on it ([`label`]); no earlier board has the same.
+    /// What is written on it ([`label`]); no earlier board has the same, A and a being the same.
     pub label: [u8; 12],
-    /// The label of the board that feeds it; `label("")` for the source.
+    /// The label of the board that feeds it, in any case; `label("")` for the source.
     pub feeder: [u8; 12],
     /// One of [`kind`].
     pub kind: u8,

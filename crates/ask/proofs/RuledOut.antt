@@ -40,13 +40,13 @@ why Accepted = []
 why (Refused r) = r .number ∷ r .place ∷ whose (r .part .whose) ∷ r .part .start ∷ r .part .len ∷ []
 
 abbrev told : Question → ℕ
-told q = list (q .k ∷ why (q .outcome))
+told q = list (q .k ∷ (why (q .outcome) ++ q .fault .label))
 
 -- refused by the first bytes of one of the two that are lent
 abbrev refuse : Lent → ℕ → ℕ → ℕ → Question
 refuse w number place len = refusedQuestion (record { part = part w 0 len; place = place; number = number })
 
--- ---- faults at A by kind, phase and R; the bytes of a fault at A by kind; a table of one source, A, earthed and not
+-- ---- faults at A by kind, phase and R; the bytes of a fault at A by kind, and of one at a; a table of one source, A, earthed and not
 abbrev A : List ℕ
 A = 65 ∷ replicate 11 32
 
@@ -55,6 +55,9 @@ fault k p r = record { zf = ohms r 0; label = A; kind = k; phase = p }
 
 abbrev bytes : ℕ → List ℕ
 bytes k = 0x46 ∷ 0x54 ∷ A ++ (k ∷ replicate 5 0)
+
+abbrev small : List ℕ
+small = 0x46 ∷ 0x54 ∷ 97 ∷ replicate 11 32 ++ (1 ∷ replicate 5 0)
 
 abbrev source : ℕ → ℕ → List Board
 source kind x0 = table emptyBoard (record { z1 = ohms 0 1; z2 = ohms 0 1; z0 = ohms 0 x0; zn = ohms 0 0; label = A; feeder = replicate 12 32; kind = kind; clock = 0 } ∷ [])
@@ -103,8 +106,10 @@ module _ (κ : Lft) where
       ∷ (lent (bytes 1), (boards, (1, (37, tt)))) ↛ acceptedQuestion (fault 1 0 0) 0  -- place_from_0
       ∷ (lent (bytes 1), (boards, (1, (37, tt)))) ↛ refuse FaultBytes 14 0 20  -- board_1_not_found
       ∷ (lent [], (boards, (1, (37, tt)))) ↛ refuse FaultBytes 12 0 20  -- short_fault_shown_as_20
+      ∷ (lent small, (boards, (1, (37, tt)))) ↛ refuse FaultBytes 14 0 20  -- fault_as_typed
+      ∷ (lent small, (boards, (1, (37, tt)))) ↛ acceptedQuestion (fault 1 0 0) 1  -- fault_in_capitals
       ∷ [])
   unfolding askOf asking faultOf table Rows·open Refusal·open Chain·open Kind·open Label·open Bytes·open
   ask-not =
       by-equation (λ a. askOf (take (a .1 .1 .0) (a .1 .0)) (a .0 .now) (a .1 .1 .1 .0)) told (λ a z e s. s)
-      (lit≤ tt, (lit≤ tt, (lit≤ tt, (lit≤ tt, tt)))) tt
+      (lit≤ tt, (lit≤ tt, (lit≤ tt, (lit≤ tt, (lit≤ tt, (lit≤ tt, tt)))))) tt

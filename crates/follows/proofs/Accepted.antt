@@ -23,7 +23,7 @@ use Rattle.follows.proofs.Rows.{Clear, clear, clear-at, then-none}
 use Rattle.follows.proofs.Sound.{Sound, sound-none, tested, sound-next}
 
 -- ---- the head
-within-true : (a b n : ℕ) → within a b n ≡ true → (a ≤ n) × (n ≤ b)
+pub within-true : (a b n : ℕ) → within a b n ≡ true → (a ≤ n) × (n ≤ b)
 unfolding within
 within-true a b n h = let (l, m) = both (leb a n) (leb n b) h in (leb-true a n l, leb-true n b m)
 

@@ -31,3 +31,7 @@ pub mod Divisor
 pub mod Laid
 -- all that acceptance gives of a question
 pub mod Given
+-- 02, R-3: small letters and capitals; boards with their labels in capitals; bytes typed in another case
+pub mod Case
+pub mod Upper
+pub mod Retyped

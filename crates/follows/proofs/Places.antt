@@ -9,7 +9,7 @@ use lib.ListN.{length, getD}
 use borrow.Author.Tests.{eq-eqb}
 use Rattle.paper.specs.declared.Board.{Board}
 use Rattle.paper.specs.Bytes.{sameBytes}
-use Rattle.paper.specs.Label.{Label, sameLabel}
+use Rattle.paper.specs.Label.{Label, capitals, sameLabel}
 use Rattle.paper.specs.Chain.{Boards, noBoard, board, lookFrom, placeOf}
 
 pub same-bytes : (l : Label) → sameBytes l l ≡ true
@@ -19,7 +19,7 @@ same-bytes (x ∷ l) = simp (eq-eqb x x refl, same-bytes l)
 
 pub same-label : (l : Label) → sameLabel l l ≡ true
 unfolding sameLabel
-same-label l = same-bytes l
+same-label l = same-bytes (capitals l)
 
 -- ---- one step
 pub look-here : (r : ℕ) (l : Label) (b : Board) (bs : Boards) → sameLabel l (b .label) ≡ true → lookFrom r l (b ∷ bs) ≡ r

@@ -1,4 +1,5 @@
 pub mod FromTheBack
+mod Capitals
 mod Same
 pub mod PlacesLaws
 mod Filled

@@ -22,12 +22,15 @@ pub(crate) fn find(boards: &[Board], label: [u8; 12]) -> usize
     let mut i = 0;
     while i < boards.len() {
         let b = boards[i];
-        i += 1;
         if labelled(b, label) {
-            return i;
+            break;
         }
+        i += 1;
     }
-    0
+    if i == boards.len() {
+        return 0;
+    }
+    i + 1
 }
 
 // Of the first n boards of a table. Whoever calls this needs no walk.

@@ -6,7 +6,8 @@ use Prim.Native.Nat.{ℕ, zero, suc, _+_, _*_, _/_, _%_, _^_, _<_}
 use native.Mathlib.Omega.{arith}
 use lib.Dec.{eqb}
 use borrow.Author.Tests.{eq-eqb, ne-eqb, eqb-true, eqb-false}
-use Rattle.lemmas.specs.Little.{little, littleEndian}
+use Rattle.lemmas.specs.Little.{little}
+use Rattle.lemmas.specs.Bytewise.{littleEndian}
 
 pub little-back : (k n : ℕ) → n < 256 ^ k → littleEndian (little k n) ≡ n
 unfolding little

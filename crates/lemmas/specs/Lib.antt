@@ -3,3 +3,4 @@ pub mod Small
 pub mod Over
 pub mod Table
 pub mod Little
+pub mod Bytewise

@@ -34,6 +34,9 @@ board s = bytes "BD" ++ (label s ++ replicate 30 46)
 abbrev one : RefT (List ℕ)
 one = lent (bytes "HDvvuu\u{1}\0" ++ board "A")
 
+abbrev small : RefT (List ℕ)
+small = lent (bytes "HDvvuu\u{1}\0" ++ board "a")
+
 abbrev two : RefT (List ℕ)
 two = lent (bytes "HDvvuu\u{2}\0" ++ (board "A" ++ board "B"))
 
@@ -56,6 +59,7 @@ module _ (κ : Lft) where
   pub put-label-not : RuledOut (put-label.Pre (κ, tt)) (leaves (put-label.Post (κ, tt))) (
       (dots 12, (0, (label "A", tt))) ↛ (12, label "A")  -- label_with_its_spaces
       ∷ (dots 3, (0, (label "A", tt))) ↛ (2, bytes ".A.")  -- label_of_its_length
+      ∷ (dots 3, (0, (label "a", tt))) ↛ (1, bytes "A..")  -- label_in_capitals
       ∷ [])
   unfolding unspaced Label·open
   put-label-not = by-room (λ b. unspaced (b .0)) tt tt
@@ -70,6 +74,7 @@ module _ (κ : Lft) where
   pub put-fault-not : RuledOut (put-fault.Pre (κ, tt)) (leaves (put-fault.Post (κ, tt))) (
       (dots 14, (0, (label "A", (3, (1, (9, tt)))))) ↛ (14, bytes "FAULT A 1 1 9\n")  -- kind_is_the_phase
       ∷ (dots 14, (0, (label "A", (3, (1, (9, tt)))))) ↛ (14, bytes "FAULT A 3 9 1\n")  -- amps_before_phase
+      ∷ (dots 14, (0, (label "a", (3, (1, (9, tt)))))) ↛ (14, bytes "FAULT A 3 1 9\n")  -- fault_in_capitals
       ∷ [])
   unfolding Lines·open Label·open Decimal·open Bytes·open
   put-fault-not = by-room (λ b. faultLine (b .0) (b .1 .0) (b .1 .1 .0) (b .1 .1 .1 .0)) tt tt
@@ -92,8 +97,9 @@ module _ (κ κ₁ κ₂ : Lft) where
       ∷ (dots 84, (0, (one, (1, (numbers 25 12, tt))))) ↛ (84, three "A V " ++ three "A I ")  -- currents_are_voltages
       ∷ (dots 132, (0, (one, (1, (numbers 37 0, tt))))) ↛ (132, three "vvuu\u{1}\0BDA V " ++ three "vvuu\u{1}\0BDA I ")  -- boards_from_0
       ∷ (dots 168, (0, (two, (2, (numbers 37 24, tt))))) ↛ (168, three "A V " ++ (three "A I " ++ (three "B V " ++ three "B I ")))  -- board_1_again
+      ∷ (dots 84, (0, (small, (1, (numbers 37 0, tt))))) ↛ (84, three "A V " ++ three "A I ")  -- boards_in_capitals
       ∷ [])
   unfolding Boards·open Lines·open Label·open Decimal·open File·open Bytes·open
   put-boards-not =
       by-text (λ b. boardsLying (boardsOf (b .0 .now)) (drop 13 (b .1 .1 .0 .now)))
-      ((refl, (refl, (omega arith, room tt))), ((refl, (refl, (omega arith, room tt))), ((refl, (refl, (omega arith, room tt))), ((refl, (refl, (omega arith, room tt))), ((refl, (refl, (omega arith, room tt))), ((refl, (refl, (omega arith, room tt))), tt)))))) tt
+      ((refl, (refl, (omega arith, room tt))), ((refl, (refl, (omega arith, room tt))), ((refl, (refl, (omega arith, room tt))), ((refl, (refl, (omega arith, room tt))), ((refl, (refl, (omega arith, room tt))), ((refl, (refl, (omega arith, room tt))), ((refl, (refl, (omega arith, room tt))), tt))))))) tt

@@ -4,6 +4,7 @@ pub mod Compare
 pub mod Calls
 pub mod Figures
 pub mod UnearthedFigures
+pub mod CaseFigures
 pub mod WriteFigures
 -- what tables of wrong answers say of impedances and sequences
 pub mod Told

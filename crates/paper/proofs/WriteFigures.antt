@@ -110,6 +110,9 @@ writes =
     ∷ refuses 230 1000 (gen ∷ hall 4 10 (j 20) (j 20) ∷ []) 96 9 2
     ∷ refuses 230 1000 (gen ∷ hall 2 0 (j 20) (j 21) ∷ []) 96 10 2
     ∷ refuses 230 1000 (gen ∷ hall 2 0 (j 4076) (j 4076) ∷ []) 96 11 2
+    -- 02, R-3: label and feeder are written as they are typed; a label that differs from an earlier one in case alone is used
+    ∷ write 230 1000 (gen ∷ board "Tent-1" "gEN" 2 0 (j 20) (j 20) (j 20) (j 0) ∷ []) 96 (taken 96) (head 230 1000 2 ++ (bd "GEN" "" 0 0 (j 20) (j 20) (j 5) (j 5) ++ bd "Tent-1" "gEN" 2 0 (j 20) (j 20) (j 20) (j 0)))
+    ∷ refuses 230 1000 (gen ∷ board "Gen" "GEN" 2 0 (j 20) (j 20) (j 20) (j 0) ∷ []) 96 7 2
     -- two at once: 3 before 6, 7 before 8, an earlier record's 11 before a later one's 6, all before 20
     ∷ refuses 0 1000 (board "HA LL" "" 0 0 (j 20) (j 20) (j 5) (j 5) ∷ []) 52 3 0
     ∷ refuses 230 1000 (gen ∷ board "GEN" "NOWHERE" 2 0 (j 20) (j 20) (j 20) (j 0) ∷ []) 96 7 2

@@ -1,7 +1,7 @@
--- 01, 'Files': labels. Assumes nothing.
+-- 01, 'Files', and 02, R-3: labels. Assumes nothing.
 use mathlib.Core.Bool.{Bool, true, false, cond, _&&_}
-use mathlib.Core.List.{List, [], _∷_}
-use Prim.Native.Nat.{ℕ}
+use mathlib.Core.List.{List, [], _∷_, map}
+use Prim.Native.Nat.{ℕ, _-_}
 use lib.Dec.{eqb}
 use lib.ListN.{replicate}
 use Rattle.paper.specs.Bytes.{sameBytes, within}
@@ -26,10 +26,17 @@ unfoldable pub formed : Label → Bool
 formed [] = false
 formed (x ∷ xs) = within 0x21 0x7E x && visibleThenBlank xs
 
--- "Labels are equal only if all twelve bytes are." The one definition of it
+-- "a to z are read as A to Z": a byte's capital
+unfoldable pub capital : ℕ → ℕ
+capital x = cond (within 0x61 0x7A x) (x - 0x20) x
+
+abbrev pub capitals : Label → Label
+capitals l = map capital l
+
+-- "Labels are now equal when all twelve bytes agree after a to z are read as A to Z". The one definition of it
 unfoldable pub sameLabel : Label → Label → Bool
-sameLabel a b = sameBytes a b
+sameLabel a b = sameBytes (capitals a) (capitals b)
 
 unfoldable pub Label·open : Unit {0}
-unfolding spaces blank visibleThenBlank formed sameLabel
+unfolding spaces blank visibleThenBlank formed capital sameLabel
 Label·open = tt

@@ -32,7 +32,7 @@ abbrev stand : ℕ → ℕ → List ℕ → RefT (List ℕ)
 stand block place s = record { ptr = (block, place); name = 0; now = s }
 
 abbrev net : RefT (List ℕ)
-net = stand 1 10 (1 ∷ 2 ∷ 3 ∷ 4 ∷ [])
+net = stand 1 10 (1 ∷ 97 ∷ 3 ∷ 4 ∷ [])
 
 abbrev flt : RefT (List ℕ)
 flt = stand 2 20 (5 ∷ 6 ∷ 7 ∷ 8 ∷ [])
@@ -57,13 +57,14 @@ accepted-not = by-equation (λ a. answer (a .0) (theRecord (a .1 .0)) (a .1 .0) 
 
 module _ (κ : Lft) where
   pub shown-not : RuledOut (shown.Pre (κ, tt)) (ever (shown.Post (κ, tt))) (
-      (net, (flt, (part FaultBytes 1 2, tt))) ↛ stand 1 11 (2 ∷ 3 ∷ [])  -- network_bytes_for_a_fault
-      ∷ (net, (flt, (part NetworkBytes 1 2, tt))) ↛ stand 1 11 (2 ∷ [])  -- shown_one_byte_short
-      ∷ (net, (flt, (part NetworkBytes 1 2, tt))) ↛ stand 1 10 (2 ∷ 3 ∷ [])  -- shown_from_the_front
+      (net, (flt, (part FaultBytes 1 2, tt))) ↛ stand 1 11 (97 ∷ 3 ∷ [])  -- network_bytes_for_a_fault
+      ∷ (net, (flt, (part NetworkBytes 1 2, tt))) ↛ stand 1 11 (97 ∷ [])  -- shown_one_byte_short
+      ∷ (net, (flt, (part NetworkBytes 1 2, tt))) ↛ stand 1 10 (97 ∷ 3 ∷ [])  -- shown_from_the_front
+      ∷ (net, (flt, (part NetworkBytes 1 2, tt))) ↛ stand 1 11 (65 ∷ 3 ∷ [])  -- shown_in_capitals
       ∷ (net, (flt, (part NetworkBytes 1 2, tt))) ↛ stand 2 21 (6 ∷ 7 ∷ [])  -- shown_of_the_other
       ∷ [])
   shown-not =
       by (λ z. told (z .ptr .0) (z .ptr .1) (z .now))
       (λ a. let p = a .1 .1 .0 in let s = lent (p .whose) (a .0) (a .1 .0) in told (s .ptr .0) (s .ptr .1 + p .start) (cut (s .now) (p .start) (p .len)))
       (λ a z s i. told (s .1 .block i) (s .1 .offset i) (s .1 .bytes i))
-      (omega arith, (omega arith, (omega arith, (omega arith, tt)))) tt
+      (omega arith, (omega arith, (omega arith, (omega arith, (omega arith, tt))))) tt

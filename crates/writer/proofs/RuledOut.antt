@@ -60,11 +60,17 @@ at-most-256-not = by-equation (λ a. min 256 (a .0)) (λ n. n) (λ a z e s. s) (
 abbrev hall : Board
 hall = board "HALL" "GEN" 3 0 (ohms 1 2) (ohms 1 2) (ohms 3 4) (ohms 5 6)
 
+-- the same, typed in small letters
+abbrev small : Board
+small = board "hall" "gen" 3 0 (ohms 1 2) (ohms 1 2) (ohms 3 4) (ohms 5 6)
+
 module _ (κ : Lft) where
   pub put-board-not : RuledOut (put-board.Pre (κ, tt)) (leaves (put-board.Post (κ, tt))) (
       (lent (dots 44), (0, (hall, tt))) ↛ (44, bd "GEN" "HALL" 3 0 (ohms 1 2) (ohms 1 2) (ohms 3 4) (ohms 5 6))  -- feeder_for_label
       ∷ (lent (dots 44), (0, (hall, tt))) ↛ (44, bd "HALL" "GEN" 3 0 (ohms 1 2) (ohms 1 2) (ohms 5 6) (ohms 3 4))  -- zn_for_z0
       ∷ (lent (dots 44), (0, (hall, tt))) ↛ (44, bd "HALL" "GEN" 0 3 (ohms 1 2) (ohms 1 2) (ohms 3 4) (ohms 5 6))  -- clock_for_kind
+      ∷ (lent (dots 44), (0, (small, tt))) ↛ (44, bd "HALL" "gen" 3 0 (ohms 1 2) (ohms 1 2) (ohms 3 4) (ohms 5 6))  -- label_in_capitals
+      ∷ (lent (dots 44), (0, (small, tt))) ↛ (44, bd "hall" "GEN" 3 0 (ohms 1 2) (ohms 1 2) (ohms 3 4) (ohms 5 6))  -- feeder_in_capitals
       ∷ [])
   unfolding Write·open Typed·open
   put-board-not = by-room (λ b. boardBytes (b .0)) tt tt

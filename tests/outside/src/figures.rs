@@ -1,5 +1,6 @@
 //! The paper's figures, worked through once more, and its printed example.
 
+mod typed;
 mod unearthed;
 
 use crate::compare::same;
@@ -272,7 +273,8 @@ fn printed(run: &mut Run) {
 /// The refusal table, by hand.
 fn by_hand(run: &mut Run) {
     let lines = table::HEAD.iter().chain(&table::RECORDS);
-    for line in lines.chain(&table::FAULTS).chain(&table::NO_RETURN) {
+    let lines = lines.chain(&table::FAULTS).chain(&table::TYPED);
+    for line in lines.chain(&table::NO_RETURN) {
         let mut net = network(230, 1000, &paper_records());
         let mut hall = fault("HALL", 1, 0, [0, 0]);
         line.net.iter().for_each(|&(at, byte)| net[at] = byte);
@@ -327,6 +329,7 @@ pub fn all() -> bool {
     printed(&mut run);
     others(&mut run);
     unearthed::by_hand(&mut run);
+    typed::by_hand(&mut run);
     write::table::by_hand(&mut run);
     println!("{} of {} figures agree", run.agree, run.all);
     run.agree == run.all

@@ -75,6 +75,50 @@ pub enum Premise {
     AnyFault,
 }
 
+/// When labels are equal: all twelve bytes agree after a to z are read as A to Z.
+#[derive(Clone, Copy)]
+pub struct Labels {
+    /// Bytes that count, from the first on.
+    pub count: usize,
+    /// The rules that read them so; a rule that is not named compares them as typed.
+    pub rules: &'static [u32],
+    /// Bytes that are read as others: the first and the last of a row, and how much lower.
+    pub lowered: &'static [(u8, u8, u8)],
+    /// At which of the twelve bytes: from this one on, counted from 0, and before that one.
+    pub places: (usize, usize),
+    /// The label that is looked for is read so, and the earlier one that it is held against.
+    pub sought: bool,
+    pub held: bool,
+}
+
+impl Labels {
+    /// What a rule compares of the label that it looks for.
+    pub fn sought(&self, rule: u32, label: &[u8]) -> [u8; 12] {
+        self.compared(label, self.sought && self.rules.contains(&rule))
+    }
+
+    /// What it compares of each label that it may find.
+    pub fn held(&self, rule: u32, label: &[u8]) -> [u8; 12] {
+        self.compared(label, self.held && self.rules.contains(&rule))
+    }
+
+    fn compared(&self, label: &[u8], lowered: bool) -> [u8; 12] {
+        let (from, before) = self.places;
+        std::array::from_fn(|i| match label[i] {
+            // Those that do not count are all one.
+            _ if i >= self.count => b' ',
+            c if lowered && from <= i && i < before => self.read(c),
+            c => c,
+        })
+    }
+
+    fn read(&self, c: u8) -> u8 {
+        let mut rows = self.lowered.iter();
+        let row = rows.find(|(first, last, _)| (*first..=*last).contains(&c));
+        row.map_or(c, |(_, _, lower)| c - lower)
+    }
+}
+
 #[derive(Clone, Copy)]
 pub struct Paper {
     /// How often zn counts in a zero-sequence term (3).
@@ -87,8 +131,8 @@ pub struct Paper {
     pub negative_turn: i64,
     /// The board side lags (+1) its feeder side.
     pub lag: i64,
-    /// Letters of a label that count.
-    pub letters: usize,
+    ///
+    pub labels: Labels,
     /// A label used twice is refused (7); otherwise the later entry wins.
     pub labels_unique: bool,
     /// 7 asks for a label used earlier; otherwise one used anywhere else will do.
@@ -130,7 +174,14 @@ impl Paper {
         kind4_starts: true,
         negative_turn: -1,
         lag: 1,
-        letters: 12,
+        labels: Labels {
+            count: 12,
+            rules: &[7, 8, 14],
+            lowered: &[(b'a', b'z', 0x20)],
+            places: (0, 12),
+            sought: true,
+            held: true,
+        },
         labels_unique: true,
         looks_back: true,
         none_is_none: true,
@@ -176,5 +227,24 @@ impl Paper {
             rules.swap(i, i + 1);
         }
         rules
+    }
+}
+
+#[cfg(test)]
+mod tests {
+    use super::Paper;
+
+    /// The standard library's comparison, which `plan` goes by, says the same of every two bytes.
+    #[test]
+    fn bytes_are_equal_in_two_ways() {
+        let labels = Paper::AS_WRITTEN.labels;
+        for (x, y) in (0..=255u8).flat_map(|x| (0..=255u8).map(move |y| (x, y))) {
+            for (rule, place) in [(7, 0), (8, 7), (14, 11)] {
+                let [mut a, mut b] = [*b"Booth-WEST-1"; 2];
+                (a[place], b[place]) = (x, y);
+                let equal = labels.sought(rule, &a) == labels.held(rule, &b);
+                assert_eq!(equal, a.eq_ignore_ascii_case(&b), "{x:#x} {y:#x}");
+            }
+        }
     }
 }

@@ -1,7 +1,8 @@
 //! A second reading of accepted bytes, for `laws`, `solve` and `crew` only: it shares nothing with
 //! `judge`.
 //!
-//! Labels are looked for from the front; turn and earth return are carried from feeder to board.
+//! Labels are looked for from the front, by the standard library's comparison without regard to case
+//! turn and earth return are carried from feeder to board.
 
 use crate::paper::Premise;
 use crate::ring::Num;
@@ -75,7 +76,8 @@ fn pair(b: &[u8]) -> Num {
 }
 
 fn place_of(net: &[u8], label: &[u8]) -> Option<usize> {
-    net[8..].chunks(44).position(|b| &b[2..14] == label)
+    let mut boards = net[8..].chunks(44);
+    boards.position(|b| b[2..14].eq_ignore_ascii_case(label))
 }
 
 /// None where the bytes are none that could have been accepted.
@@ -85,8 +87,10 @@ pub fn plan(net: &[u8], fault: &[u8]) -> Option<Plan> {
     }
     let mut records: Vec<Record> = Vec::new();
     for b in net[8..].chunks(44) {
-        let up = place_of(net, &b[14..26]);
-        if up.map_or(!records.is_empty(), |u| u >= records.len()) {
+        let (own, up) = (place_of(net, &b[2..14]), place_of(net, &b[14..26]));
+        // Each is the first of its label, and all but the source are fed by an earlier one.
+        let first = own == Some(records.len());
+        if !first || up.map_or(!records.is_empty(), |u| u >= records.len()) {
             return None;
         }
         let record = record(b, up, &records);

@@ -177,13 +177,12 @@ pub const RECORDS: [Line; 20] = [
     net("taken: Z0 4,094", &[(138, 0x4e), (139, 5)], HALL),
 ];
 
-pub const FAULTS: [Line; 17] = [
+pub const FAULTS: [Line; 16] = [
     fault_cut(0, [12, 0, 2, 0, 0]),
     fault_cut(19, [12, 0, 2, 0, 19]),
     fault_cut(21, [12, 0, 2, 0, 21]),
     fault("13: fT", &[(0, b'f')], [13, 0, 2, 0, 20]),
     fault("14: HALX", &[(5, b'X')], [14, 0, 2, 0, 20]),
-    fault("14: hALL", &[(2, b'h')], [14, 0, 2, 0, 20]),
     fault("14: a wrong form", &[(2, 0)], [14, 0, 2, 0, 20]),
     fault("15: kind 4", &[(14, 4)], [15, 0, 2, 0, 20]),
     fault("15 before 16", &[(14, 4), (15, 9)], [15, 0, 2, 0, 20]),
@@ -195,6 +194,29 @@ pub const FAULTS: [Line; 17] = [
     room("19: 84 numbers", 84, [19, 0, 2, 0, 0]),
     room("19: none", 0, [19, 0, 2, 0, 0]),
     room("taken: 86 numbers", 86, HALL),
+];
+
+/// HALL called gEn, and fed by nobody besides.
+const GEN_AGAIN: Edits = &[(98, b'g'), (99, b'E'), (100, b'n'), (101, 32)];
+const GEN_UNFED: Edits = &[(98, b'g'), (99, b'E'), (100, b'n'), (101, 32), (110, 0)];
+
+/// Letter case in labels. Labels stand from 10, 54 and 98, feeders from 66 and 110.
+#[rustfmt::skip]
+pub const TYPED: [Line; 14] = [
+    fault("taken: hALL", &[(2, b'h')], HALL),
+    fault("taken: HALl", &[(5, b'l')], HALL),
+    fault("taken: hall", &[(2, b'h'), (3, b'a'), (4, b'l'), (5, b'l')], HALL),
+    fault("14: hall with a letter more", &[(2, b'h'), (6, b'l')], [14, 0, 2, 0, 20]),
+    fault("14: H!LL", &[(3, b'!')], [14, 0, 2, 0, 20]),
+    fault("14: HALL closed with a 0", &[(6, 0)], [14, 0, 2, 0, 20]),
+    net("taken: HALL is Hall on its board", &[(99, b'a'), (100, b'l'), (101, b'l')], HALL),
+    net("taken: HALL fed by gEN", &[(110, b'g')], HALL),
+    net("taken: GEN is geN on its board", &[(10, b'g'), (11, b'e')], HALL),
+    net("7: HALL called gEn", GEN_AGAIN, [7, 3, 1, 96, 44]),
+    net("7: HALL called gEn, fed by nobody", GEN_UNFED, [7, 3, 1, 96, 44]),
+    net("8: HALL fed by gENX", &[(110, b'g'), (113, b'X')], [8, 3, 1, 96, 44]),
+    net("8: HALL fed by hall", &[(110, b'h'), (111, b'a'), (112, b'l'), (113, b'l')], [8, 3, 1, 96, 44]),
+    net("8: BOOTH-WEST-1 fed by hall", &[(66, b'h'), (67, b'a'), (68, b'l'), (69, b'l')], [8, 2, 1, 52, 44]),
 ];
 
 /// 18 is withdrawn: what is asked of an earth fault without earth return is 12 to 17, then 19.

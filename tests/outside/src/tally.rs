@@ -99,6 +99,7 @@ impl Tally {
         let last = case.net.len().saturating_sub(8) / 44;
         self.to_solve.count(v.number, v.place, last);
         self.edges.look_solved(case, v);
+        self.edges.look_typed(case, v);
         let (f, no_return) = (&case.fault, around(case, v));
         if let Some(a) = &no_return {
             self.edges.look_unearthed(case, v, a);
@@ -115,6 +116,7 @@ impl Tally {
         let last = case.boards.len() / 44;
         self.to_write.count(v.number, v.place, last);
         self.edges.look_written(case, v);
+        self.edges.look_typed_boards(case, v);
     }
 
     pub fn print(&self) {

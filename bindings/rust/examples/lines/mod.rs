@@ -13,8 +13,8 @@ fn print_phases(before: &str, what: char, x: &[i64]) {
 }
 
 fn print_accepted(a: &Answer, network: &[u8], fault: &[u8], x: &[i64]) {
-    let record = a.shown(network, fault);
-    println!("FAULT {} {} {} {}", name(&record[2..14]), fault[14], fault[15], a.amps);
+    // the first line's label as it was typed in the fault, the boards' as in the network
+    println!("FAULT {} {} {} {}", name(&fault[2..14]), fault[14], fault[15], a.amps);
     println!("D {}", x[0]);
     print_phases("", 'I', &x[1..13]);
     for (record, x) in network[8..].chunks(44).zip(x[13..].chunks(24)) {

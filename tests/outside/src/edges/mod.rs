@@ -1,6 +1,7 @@
 //! Which edges of the paper's ranges the cases have met, on either side.
 
 mod solve;
+mod typed;
 pub mod unearthed;
 mod write;
 
@@ -16,6 +17,11 @@ fn word(b: &[u8], at: usize) -> u16 {
 /// Part 0 to 7 of a record: r and x of z1, z2, z0, zn.
 fn part(b: &[u8], i: usize) -> u16 {
     word(b, 28 + 2 * i)
+}
+
+/// A label as it is compared: two are one if these are.
+fn capitals(label: &[u8]) -> Vec<u8> {
+    label.to_ascii_uppercase()
 }
 
 impl Edges {

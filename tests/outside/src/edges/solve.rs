@@ -1,6 +1,6 @@
 //! Edges that cases of `solve` have met.
 
-use super::{part, word, Edges};
+use super::{capitals, part, word, Edges};
 use crate::judge::{room_needed, Verdict};
 use crate::make::SolveCase;
 use std::collections::HashMap;
@@ -16,10 +16,11 @@ struct Level {
 
 /// The levels of the first `count` records.
 fn levels(net: &[u8], count: usize) -> Vec<Level> {
-    let mut by_label: HashMap<&[u8], Level> = HashMap::new();
+    let mut by_label: HashMap<Vec<u8>, Level> = HashMap::new();
     let mut out = Vec::new();
     for b in net[8..].chunks_exact(44).take(count) {
-        let above = by_label.get(&b[14..26]).copied().unwrap_or_default();
+        let above = by_label.get(&capitals(&b[14..26])).copied();
+        let above = above.unwrap_or_default();
         let own = |i: usize| u32::from(part(b, i));
         let term = [own(4) + 3 * own(6), own(5) + 3 * own(7)];
         let level = Level {
@@ -32,7 +33,7 @@ fn levels(net: &[u8], count: usize) -> Vec<Level> {
                 _ => None,
             },
         };
-        by_label.insert(&b[2..14], level);
+        by_label.insert(capitals(&b[2..14]), level);
         out.push(level);
     }
     out

@@ -1,7 +1,7 @@
 //! Earth faults without earth return: what stands around the faulted board, and which edges
 //! such cases have met.
 
-use super::{word, Edges};
+use super::{capitals, word, Edges};
 use crate::judge::{room_needed, Verdict};
 use crate::make::SolveCase;
 use std::collections::HashMap;
@@ -15,11 +15,11 @@ struct Board {
     earthed: bool,
 }
 
-fn boards(net: &[u8]) -> (Vec<Board>, HashMap<&[u8], usize>) {
+fn boards(net: &[u8]) -> (Vec<Board>, HashMap<Vec<u8>, usize>) {
     let mut places = HashMap::new();
     let mut out: Vec<Board> = Vec::new();
     for (r, b) in net[8..].chunks_exact(44).enumerate() {
-        let up = places.get(&b[14..26]).copied();
+        let up = places.get(&capitals(&b[14..26])).copied();
         let above = up.map(|u: usize| (out[u].part, out[u].earthed));
         let (part, earthed) = match (b[26], above) {
             (2 | 3, Some(above)) => above,
@@ -32,7 +32,7 @@ fn boards(net: &[u8]) -> (Vec<Board>, HashMap<&[u8], usize>) {
             part,
             earthed,
         });
-        places.insert(&b[2..14], r);
+        places.insert(capitals(&b[2..14]), r);
     }
     (out, places)
 }
@@ -61,7 +61,7 @@ pub fn around(case: &SolveCase, v: &Verdict) -> Option<Around> {
         return None;
     }
     let (all, places) = boards(&case.net);
-    let k = *places.get(&f[2..14])?;
+    let k = *places.get(&capitals(&f[2..14]))?;
     (!all[k].earthed).then(|| count(&all, k))
 }
 

@@ -74,7 +74,7 @@ fn readings() -> Vec<Row> {
         // The request's own two boards: to the eleventh letter they are one.
         reading(
             "labels of eleven letters",
-            |p| p.letters = 11,
+            |p| p.labels.count = 11,
             |d| {
                 d.recs[2].label = label(b"BOOTH-WEST-2");
                 at(d, "BOOTH-WEST-2", 1, 0);

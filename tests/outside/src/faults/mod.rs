@@ -7,6 +7,7 @@
 
 mod list;
 mod premise;
+mod typed;
 mod unearthed;
 mod writer;
 
@@ -42,26 +43,35 @@ enum Made {
     Solve(fn(&mut Draft)),
     /// To be written, in one byte more than the file needs.
     Write(fn(&mut Draft)),
+    /// Either of these, where two labels meet.
+    Met(typed::Meeting),
 }
 
 impl Made {
     fn case(&self, note: &str) -> Case {
-        let mut draft = paper_draft();
         match self {
-            Made::Solve(change) => {
-                draft.room = room_needed(draft.recs.len()) + 1;
-                change(&mut draft);
-                Case::Solve(make::finish(draft, note))
-            }
-            Made::Write(change) => {
-                draft.room = file_length(draft.recs.len()) + 1;
-                // A mark that is none: what stands there is not to be looked at.
-                draft.recs.iter_mut().for_each(|r| r.mark = *b"xy");
-                change(&mut draft);
-                Case::Write(make::finish_file(&draft, note))
-            }
+            Made::Solve(change) => to_solve(note, change),
+            Made::Write(change) => to_write(note, change),
+            Made::Met(m) if m.write => to_write(note, |d| m.arrange(d)),
+            Made::Met(m) => to_solve(note, |d| m.arrange(d)),
         }
     }
+}
+
+fn to_solve(note: &str, change: impl Fn(&mut Draft)) -> Case {
+    let mut draft = paper_draft();
+    draft.room = room_needed(draft.recs.len()) + 1;
+    change(&mut draft);
+    Case::Solve(make::finish(draft, note))
+}
+
+fn to_write(note: &str, change: impl Fn(&mut Draft)) -> Case {
+    let mut draft = paper_draft();
+    draft.room = file_length(draft.recs.len()) + 1;
+    // A mark that is none: what stands there is not to be looked at.
+    draft.recs.iter_mut().for_each(|r| r.mark = *b"xy");
+    change(&mut draft);
+    Case::Write(make::finish_file(&draft, note))
 }
 
 /// The paper's network with phase a of HALL to earth.
@@ -98,6 +108,7 @@ fn rows() -> Vec<Row> {
     let mut rows = drawn();
     rows.extend(list::streams());
     rows.extend(writer::streams());
+    rows.extend(typed::others());
     rows
 }
 
@@ -106,10 +117,19 @@ fn drawn() -> Vec<Row> {
     let mut rows = list::drawn();
     rows.extend(unearthed::drawn());
     rows.extend(writer::drawn());
+    rows.extend(typed::drawn());
     rows
 }
 
 impl Row {
+    /// The fault, and where two labels meet if that shows it.
+    fn title(&self) -> String {
+        match &self.made {
+            Made::Met(m) => format!("{}, {}", self.name, m.told()),
+            _ => self.name.into(),
+        }
+    }
+
     fn wrong(&self, case: &Case) -> (Answer, Vec<u8>) {
         let mut paper = Paper::AS_WRITTEN;
         match self.fault {
@@ -135,11 +155,11 @@ impl Row {
         let case = self.made.case(self.name);
         let right = stream(&answer(&Paper::AS_WRITTEN, &case));
         if let Some(what) = complaint(&case, &right) {
-            let beside = format!("the right answer beside '{}'", self.name);
+            let beside = format!("the right answer beside '{}'", self.title());
             return Err(format!("{beside} was not let pass ({what})"));
         }
         let (got, bytes) = self.wrong(&case);
-        let fault = format!("the deliberate fault '{}'", self.name);
+        let fault = format!("the deliberate fault '{}'", self.title());
         let what = complaint(&case, &bytes).ok_or(format!("{fault} was not caught"))?;
         let seen = alone(&case, &got);
         match self.alone.iter().find(|who| !seen.contains(who)) {
@@ -191,7 +211,7 @@ pub fn all() -> Result<(), String> {
     };
     let (rows, slips) = (rows(), premise::slips());
     for row in &rows {
-        see(row.name, row.alone, row.tried());
+        see(&row.title(), row.alone, row.tried());
     }
     for slip in &slips {
         see(slip.name, &[], slip.tried());

@@ -97,7 +97,7 @@ fn readings() -> Vec<Row> {
         ),
         reading(
             "write: labels of eleven letters",
-            |p| p.letters = 11,
+            |p| p.labels.count = 11,
             |d| d.recs[2].label = label(b"BOOTH-WEST-2"),
         ),
         // Board 2 breaks 9, board 3 breaks 8.
@@ -235,7 +235,7 @@ fn file(a: &mut WriteAnswer) -> &mut [u8] {
     &mut a.out[..length]
 }
 
-fn records(a: &mut WriteAnswer) -> ChunksMut<'_, u8> {
+pub fn records(a: &mut WriteAnswer) -> ChunksMut<'_, u8> {
     let file = file(a);
     let head = file.len().min(8);
     file[head..].chunks_mut(44)

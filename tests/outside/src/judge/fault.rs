@@ -36,7 +36,7 @@ pub fn read(paper: &Paper, grid: &Grid, bytes: &[u8], room: usize) -> Result<Sho
 }
 
 fn board(paper: &Paper, grid: &Grid, bytes: &[u8]) -> Option<usize> {
-    grid.places.get(&bytes[2..2 + paper.letters]).copied()
+    grid.places.find(paper, 14, &bytes[2..14])
 }
 
 fn breaks(paper: &Paper, grid: &Grid, bytes: &[u8], room: usize, rule: u32) -> bool {

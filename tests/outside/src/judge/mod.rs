@@ -1,5 +1,5 @@
-//! The verdict, as the paper says it, by methods of its own: labels in a hash map, every sum by
-//! walking a chain back to the source, all arithmetic in checked i128.
+//! The verdict, as the paper says it, by methods of its own: labels in a hash map keyed by what
+//! is compared, every sum by walking a chain back to the source, all arithmetic in checked i128.
 
 pub mod amps;
 pub mod answer;

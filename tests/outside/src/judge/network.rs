@@ -16,8 +16,31 @@ pub struct Grid {
     pub up: Vec<Option<usize>>,
     /// An earlier record carries the same label.
     pub again: Vec<bool>,
-    /// Label (the letters that count) to record.
-    pub places: HashMap<Vec<u8>, usize>,
+    /// Where each label stands.
+    pub places: Places,
+}
+
+/// Labels to records. Each label is entered once for every rule that looks for one, as that rule
+/// reads it: under a wrong reading they may not all compare alike.
+#[derive(Default)]
+pub struct Places(HashMap<(u32, [u8; 12]), usize>);
+
+impl Places {
+    pub fn find(&self, paper: &Paper, rule: u32, label: &[u8]) -> Option<usize> {
+        let key = (rule, paper.labels.sought(rule, label));
+        self.0.get(&key).copied()
+    }
+
+    /// The first of equal ones stays, if it has to be the only one.
+    fn enter(&mut self, paper: &Paper, label: &[u8], r: usize) {
+        for rule in [7, 8, 14] {
+            let key = (rule, paper.labels.held(rule, label));
+            let place = self.0.entry(key).or_insert(r);
+            if !paper.labels_unique {
+                *place = r;
+            }
+        }
+    }
 }
 
 pub fn read(paper: &Paper, net: &[u8]) -> Result<Grid, Verdict> {
@@ -61,19 +84,16 @@ pub fn head_fits(paper: &Paper, volts: u16, unit: u16, count: usize) -> bool {
 
 /// Labels go into the map as the boards pass, so a feeder can only be found among earlier ones.
 pub fn join(paper: &Paper, volts: u16, unit: u16, boards: Vec<Board>) -> Grid {
-    let mut places = HashMap::new();
+    let mut places = Places::default();
     let (mut up, mut again) = (Vec::new(), Vec::new());
     for (r, b) in boards.iter().enumerate() {
-        let key = b.label[..paper.letters].to_vec();
-        let used = places.contains_key(&key);
-        up.push(places.get(&b.feeder[..paper.letters]).copied());
-        again.push(used);
-        if !used || !paper.labels_unique {
-            places.insert(key, r);
-        }
+        again.push(places.find(paper, 7, &b.label).is_some());
+        up.push(places.find(paper, 8, &b.feeder));
+        places.enter(paper, &b.label, r);
     }
     if !paper.looks_back {
-        let same = |a: &Board| boards.iter().filter(|b| b.label == a.label).count();
+        let key = |b: &Board| paper.labels.held(7, &b.label);
+        let same = |a: &Board| boards.iter().filter(|b| key(b) == key(a)).count();
         again = boards.iter().map(|a| same(a) > 1).collect();
     }
     Grid {

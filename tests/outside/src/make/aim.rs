@@ -1,7 +1,7 @@
 //! One deliberate break of each rule, at any record where it can happen, just over the limit as
 //! often as far over it. Where a draft leaves no way to break a rule, it stays as it is.
 
-use super::labels::{label, malformed, near};
+use super::labels::{label, malformed, mistaken, near, typed};
 use super::model::Draft;
 use super::{MOST_FAULT, MOST_NET};
 use crate::rng::Rng;
@@ -21,8 +21,7 @@ pub fn break_rule(rng: &mut Rng, d: &mut Draft, rule: usize) {
         4 => net_length(rng, d),
         5 => d.recs[r].mark = mark(rng, *b"BD", b"HD"),
         6 => d.recs[r].label = malformed(rng, &d.recs[r].label),
-        7 if r > 0 => d.recs[r].label = d.recs[rng.below(r)].label,
-        7 => d.recs[last].label = d.recs[0].label,
+        7 => used(rng, d, if r > 0 { r } else { last }),
         8 => feeder(rng, d, r),
         9 => kind(rng, d, r),
         10 => impedance(rng, d, r),
@@ -83,17 +82,25 @@ fn net_length(rng: &mut Rng, d: &mut Draft) {
     }
 }
 
+/// An earlier label, as it stands there or as another hand types it.
+fn used(rng: &mut Rng, d: &mut Draft, r: usize) {
+    let earlier = d.recs[rng.below(r)].label;
+    d.recs[r].label = typed(rng, &earlier, 500);
+}
+
 fn feeder(rng: &mut Rng, d: &mut Draft, r: usize) {
     let last = d.recs.len() - 1;
-    let own = d.recs[r].label;
     let was = d.recs[r].feeder;
-    d.recs[r].feeder = match rng.below(7) {
-        0 => own,
-        1 if r < last => d.recs[rng.range(r + 1, last)].label,
+    let other = rng.range(r, last);
+    d.recs[r].feeder = match rng.below(8) {
+        // Its own label or a later one.
+        0 => typed(rng, &d.recs[r].label, 500),
+        1 => typed(rng, &d.recs[other].label, 500),
         2 if r > 0 => [b' '; 12],
         3 => malformed(rng, &was),
         4 => label(b"NOWHERE"),
         5 => [0; 12],
+        6 => mistaken(rng, &was),
         _ => near(rng, &was),
     };
 }
@@ -192,10 +199,11 @@ fn fault_length(rng: &mut Rng) -> usize {
 
 fn fault_label(rng: &mut Rng, d: &mut Draft) {
     let was = d.fault_label;
-    d.fault_label = match rng.below(5) {
+    d.fault_label = match rng.below(6) {
         0 => malformed(rng, &was),
         1 => label(b"NOWHERE"),
         2 => [b' '; 12],
+        3 => mistaken(rng, &was),
         _ => near(rng, &was),
     };
 }

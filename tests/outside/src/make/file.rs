@@ -3,16 +3,17 @@
 
 use super::labels::Label;
 use super::model::Draft;
-use super::{aim, damage, finish_file, sound, WriteCase, MOST_BOARDS, MOST_OUT};
+use super::{aim, damage, finish_file, sound, typed, WriteCase, MOST_BOARDS, MOST_OUT};
 use crate::judge::board::{HEAD, RECORD};
 use crate::rng::Rng;
 
 pub fn mixed(rng: &mut Rng) -> WriteCase {
     let (mut draft, note) = match rng.below(1000) {
-        0..=459 => (usual(rng), "sound".into()),
-        460..=509 => (head_edges(rng), "edges of volts and unit".into()),
-        510..=569 => (many(rng), "number of boards".into()),
-        570..=739 => broken(rng, 1),
+        0..=434 => (usual(rng), "sound".into()),
+        435..=509 => (typed::file(rng), "letter case".into()),
+        510..=554 => (head_edges(rng), "edges of volts and unit".into()),
+        555..=609 => (many(rng), "number of boards".into()),
+        610..=739 => broken(rng, 1),
         740..=839 => broken(rng, 2),
         840..=889 => broken(rng, 3),
         890..=939 => (odd_fields(rng), "odd fields".into()),
@@ -162,10 +163,9 @@ fn foreign(rng: &mut Rng) -> Draft {
         _ => name = std::array::from_fn(|_| 0x80 | rng.byte()),
     }
     d.recs[r].label = name;
-    let fed = d.recs.iter_mut().filter(|b| b.feeder == was);
     // Where those it feeds keep the old name, 8 is behind the 6.
     if rng.coin() {
-        fed.for_each(|b| b.feeder = name);
+        d.refeed(r, name);
     }
     d
 }

@@ -6,6 +6,7 @@ mod file;
 pub mod labels;
 pub mod model;
 mod sound;
+mod typed;
 mod unearthed;
 
 use self::model::Draft;
@@ -81,9 +82,10 @@ fn to_solve(rng: &mut Rng) -> SolveCase {
 
 fn mixed(rng: &mut Rng) -> SolveCase {
     match rng.below(1000) {
-        0..=449 => finish(sound::draft(rng), "sound"),
-        450..=559 => finish(unearthed::draft(rng), "no earth return"),
-        560..=789 => broken(rng, 1),
+        0..=424 => finish(sound::draft(rng), "sound"),
+        425..=534 => finish(unearthed::draft(rng), "no earth return"),
+        535..=584 => finish(typed::draft(rng), "letter case"),
+        585..=789 => broken(rng, 1),
         790..=879 => broken(rng, 2),
         880..=899 => broken(rng, 3),
         900..=924 => damage::lengths(rng),

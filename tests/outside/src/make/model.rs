@@ -71,6 +71,21 @@ impl Draft {
         out
     }
 
+    /// Another name for a board, by which those that it feeds mean it too.
+    pub fn rename(&mut self, r: usize, name: [u8; 12]) {
+        self.recs[r].label = name;
+        self.refeed(r, name);
+    }
+
+    /// What those that it feeds call a board.
+    pub fn refeed(&mut self, r: usize, name: [u8; 12]) {
+        for (rec, up) in self.recs.iter_mut().zip(&self.up) {
+            if *up == Some(r) {
+                rec.feeder = name;
+            }
+        }
+    }
+
     /// Sums of a board as the maker keeps them, to come close to the limits.
     pub fn sums(&self, r: usize) -> Sums {
         let above = self.up[r].map_or(Sums::default(), |u| self.sums(u));

@@ -1,6 +1,6 @@
 //! Networks and faults that keep every rule, of every shape, up to the brim of every range.
 
-use super::labels;
+use super::labels::{self, Label};
 use super::model::{Draft, Rec, Sums};
 use crate::rng::Rng;
 
@@ -182,20 +182,29 @@ fn empty(rng: &mut Rng, count: usize) -> Draft {
 
 /// `count` boards, also more than a file may have; none where it is 0.
 pub fn network(rng: &mut Rng, count: usize) -> Draft {
+    let names = labels::distinct(rng, count);
+    named(rng, &names)
+}
+
+/// A board for each of these names.
+pub fn named(rng: &mut Rng, names: &[Label]) -> Draft {
     let mix = rng.below(6);
-    grown(rng, count, mix, 250)
+    grown(rng, names, mix, 250)
 }
 
 /// The same, of parts without earth return for the most.
 pub fn parts(rng: &mut Rng, count: usize) -> Draft {
+    let names = labels::distinct(rng, count);
     let mix = rng.range(6, 8);
-    grown(rng, count, mix, 500)
+    grown(rng, &names, mix, 500)
 }
 
 /// The source is without earth in `unearthed` of 1,000.
-fn grown(rng: &mut Rng, count: usize, mix: usize, unearthed: usize) -> Draft {
+fn grown(rng: &mut Rng, names: &[Label], mix: usize, unearthed: usize) -> Draft {
+    let count = names.len();
     let mut draft = empty(rng, count);
-    let names = labels::distinct(rng, count);
+    // In how many of 1,000 a feeder is typed in another case than its board.
+    let others = rng.pick(&[0, 0, 500, 900]);
     let (mut shape, usual) = (rng.below(7), size(rng));
     if count >= 256 && rng.coin() {
         // The deepest chain there can be.
@@ -213,7 +222,7 @@ fn grown(rng: &mut Rng, count: usize, mix: usize, unearthed: usize) -> Draft {
         draft.recs.push(Rec {
             mark: *b"BD",
             label: names[r],
-            feeder: up.map_or([b' '; 12], |u| names[u]),
+            feeder: up.map_or([b' '; 12], |u| labels::typed(rng, &names[u], others)),
             kind,
             clock: clock(rng, kind),
             z: impedances(rng, size, kind, &above),
@@ -256,7 +265,7 @@ fn fault(rng: &mut Rng, draft: &mut Draft) {
     } else {
         [zf(rng), zf(rng)]
     };
-    draft.fault_label = draft.recs[k].label;
+    draft.fault_label = labels::typed(rng, &draft.recs[k].label, 500);
 }
 
 /// Exactly what the answer needs, a few more, now and then far more.
@@ -273,7 +282,12 @@ fn room(rng: &mut Rng, count: usize) -> usize {
 pub fn draft(rng: &mut Rng) -> Draft {
     let count = boards(rng);
     let mut draft = network(rng, count);
-    fault(rng, &mut draft);
-    draft.room = room(rng, draft.recs.len());
+    short(rng, &mut draft);
     draft
+}
+
+/// A sound fault somewhere in a network, and room for the answer.
+pub fn short(rng: &mut Rng, draft: &mut Draft) {
+    fault(rng, draft);
+    draft.room = room(rng, draft.recs.len());
 }

@@ -2,6 +2,7 @@
 //! transformers that block; parts that branch, several in one network. Zf and room are drawn over
 //! their edges too: 17 and 19 are asked of these faults as of others.
 
+use super::labels;
 use super::model::Draft;
 use super::sound;
 use crate::rng::Rng;
@@ -36,7 +37,7 @@ fn aim(rng: &mut Rng, d: &mut Draft) {
         // What hangs behind such a transformer is looked at more than its own board.
         k = rng.pick(&list);
     }
-    d.fault_label = d.recs[k].label;
+    d.fault_label = labels::typed(rng, &d.recs[k].label, 500);
     d.fault_kind = rng.pick(&[1, 3]);
     d.phase = rng.below(3) as u8;
 }

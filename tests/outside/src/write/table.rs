@@ -77,7 +77,7 @@ const HEAD: [Line; 12] = [
     line("write 3: 372 boards", |a| many(a, 372), (3, 0)),
 ];
 
-const BOARDS: [Line; 14] = [
+const BOARDS: [Line; 13] = [
     line("write 6: spaces", |a| a.recs[1].label = [32; 12], (6, 2)),
     line("write 6: byte 0x80", |a| a.recs[2].label[3] = 0x80, (6, 3)),
     line(
@@ -90,7 +90,6 @@ const BOARDS: [Line; 14] = [
         |a| a.recs[0].feeder = label(b"HALL"),
         (8, 1),
     ),
-    line("write 8: gEN", |a| a.recs[2].feeder[0] = b'g', (8, 3)),
     line("write 9: kind 255", |a| a.recs[1].kind = 255, (9, 2)),
     line("write 9: clock 10", |a| a.recs[2].clock = 10, (9, 3)),
     line("write 9: a cable first", |a| a.recs[0].kind = 2, (9, 1)),
@@ -101,6 +100,43 @@ const BOARDS: [Line; 14] = [
     // Z0 = j20 + j4,076.
     line("write 11: Z0 4,096", |a| a.recs[1].z[5] = 4076, (11, 2)),
     line("write 11: zn 1,366", |a| a.recs[0].z[7] = 1366, (11, 1)),
+];
+
+/// Letter case in labels.
+const TYPED: [Line; 6] = [
+    line(
+        "write: HALL fed by gEN",
+        |a| a.recs[2].feeder[0] = b'g',
+        (0, 0),
+    ),
+    line(
+        "write: HALL fed by booth-west-1",
+        |a| a.recs[2].feeder = label(b"booth-west-1"),
+        (0, 0),
+    ),
+    line(
+        "write 7: HALL called Booth-West-1",
+        |a| a.recs[2].label = label(b"Booth-West-1"),
+        (7, 3),
+    ),
+    line(
+        "write 7: HALL called gen, fed by nobody, in no output",
+        |a| {
+            a.recs[2] = rec("gen", "nobody", 4, 11, [0; 8]);
+            a.room = 0;
+        },
+        (7, 3),
+    ),
+    line(
+        "write 8: HALL fed by hall",
+        |a| a.recs[2].feeder = label(b"hall"),
+        (8, 3),
+    ),
+    line(
+        "write 8: the source fed by gen",
+        |a| a.recs[0].feeder = label(b"gen"),
+        (8, 1),
+    ),
 ];
 
 const ROOM: [Line; 7] = [
@@ -133,7 +169,7 @@ const ROOM: [Line; 7] = [
 ];
 
 /// Field by field, not over bytes: these boards were never in a file.
-fn decoded(recs: &[Rec]) -> Vec<Board> {
+pub fn decoded(recs: &[Rec]) -> Vec<Board> {
     let board = |r: &Rec| Board {
         label: r.label,
         feeder: r.feeder,
@@ -176,6 +212,21 @@ fn three_boards(run: &mut Run) {
     run.see(out[140..] == rest, "write: ten bytes more are kept");
 }
 
+/// Labels and feeders stand in the file as they were given, each in its own case.
+fn as_typed(run: &mut Run) {
+    let mut recs = paper_records();
+    recs[1].label = label(b"Booth-West-1");
+    recs[1].feeder = label(b"gEN");
+    recs[2].feeder = label(b"booth-WEST-1");
+    let mut file = FILE;
+    file[54..78].copy_from_slice(b"Booth-West-1gEN         ");
+    file[110..122].copy_from_slice(b"booth-WEST-1");
+    let mut out = untouched(140);
+    let said = write(&Paper::AS_WRITTEN, 230, 1000, &decoded(&recs), &mut out);
+    let same = (said.number, said.file) == (0, 140) && out == file;
+    run.see(same, "write: Booth-West-1 and booth-WEST-1, byte for byte");
+}
+
 /// N takes its high byte at 256 boards only.
 fn most_boards(run: &mut Run) {
     let mut a = Asked {
@@ -197,8 +248,10 @@ fn most_boards(run: &mut Run) {
 
 pub fn by_hand(run: &mut Run) {
     three_boards(run);
+    as_typed(run);
     most_boards(run);
-    for line in HEAD.iter().chain(&BOARDS).chain(&ROOM) {
+    let boards = BOARDS.iter().chain(&TYPED);
+    for line in HEAD.iter().chain(boards).chain(&ROOM) {
         run.see(agrees(line), line.name);
     }
 }
