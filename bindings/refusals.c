@@ -39,23 +39,20 @@ static void say_head(void) {
     say(", a unit of 1,001", 230, 1001, 3, sizeof out);
 }
 
+/* Three boards with one label as given; the next plan mends it. */
+static void say_label(const char *what, uint8_t label[12], const char *text) {
+    ranjupeli_label(label, text);
+    say(what, 230, 1000, 3, sizeof out);
+    plan();
+}
+
 /* Each spoils one of three boards, and the next plan mends it. */
 static void say_boards(void) {
-    ranjupeli_label(boards[1].label, "BOOTH-WEST-12");
-    say(", a label of thirteen letters", 230, 1000, 3, sizeof out);
-    plan();
-    ranjupeli_label(boards[2].label, "B00001");
-    say(", a used label", 230, 1000, 3, sizeof out);
-    plan();
-    ranjupeli_label(boards[2].label, "b00001");
-    say(", a label used in another case", 230, 1000, 3, sizeof out);
-    plan();
-    ranjupeli_label(boards[2].feeder, "b00001");
-    say(", a feeder in another case", 230, 1000, 3, sizeof out);
-    plan();
-    ranjupeli_label(boards[2].feeder, "B00002");
-    say(", a board that feeds itself", 230, 1000, 3, sizeof out);
-    plan();
+    say_label(", a label of thirteen letters", boards[1].label, "BOOTH-WEST-12");
+    say_label(", a used label", boards[2].label, "B00001");
+    say_label(", a label used in another case", boards[2].label, "b00001");
+    say_label(", a feeder in another case", boards[2].feeder, "b00001");
+    say_label(", a board that feeds itself", boards[2].feeder, "B00002");
     boards[1].clock = 11;
     say(", a cable with a clock", 230, 1000, 3, sizeof out);
     plan();

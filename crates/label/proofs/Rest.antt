@@ -1,22 +1,16 @@
 -- What a loop over the boards says of those from i on, and the numbers of a walk. No logic. Assumes nothing.
 use mathlib.Core.Path.{_≡_, refl, _∙_, ap}
 use mathlib.Core.Bool.{Bool, true, false, not}
-use mathlib.Core.List.{[], _∷_}
-use Prim.Native.Nat.{ℕ, zero, suc, _≤_, _<_, _+_, _*_, _-_, _^_}
-use native.Mathlib.Nat.{le-of-suc-le-suc, not-suc-le-zero}
+use Prim.Native.Nat.{ℕ, suc, _≤_, _<_, _+_, _*_, _-_, _^_}
 use native.Mathlib.Omega.{arith}
 use lib.Dec.{T as Holds}
 use lib.ListN.{length, getD, drop, drop-of-length-le}
+use lib.Seq.{drop-cons}
 use Rattle.paper.specs.Label.{Label, sameLabel}
 use Rattle.paper.specs.Chain.{Boards, noBoard, lookFrom, placeOf}
 use Rattle.follows.proofs.Places.{look-here, look-there}
 
 -- ---- looking from i on
-drop-at : (ys : Boards) (i : ℕ) → i < length ys → drop i ys ≡ getD ys i noBoard ∷ drop (suc i) ys
-drop-at [] i l = absurd (not-suc-le-zero l)
-drop-at (y ∷ ys) zero l = refl
-drop-at (y ∷ ys) (suc i) l = drop-at ys i (le-of-suc-le-suc l)
-
 module _ (l : Label) (ys : Boards) (i : ℕ) where
   -- none of the first i boards has the label
   pub Passed : Type 0
@@ -24,7 +18,7 @@ module _ (l : Label) (ys : Boards) (i : ℕ) where
 
   pub passed-here : i < length ys → Passed → sameLabel l (getD ys i noBoard .label) ≡ true → placeOf l ys ≡ suc i
   unfolding Passed
-  passed-here m h e = h ∙ ap (lookFrom (suc i) l) (drop-at ys i m) ∙ look-here (suc i) l (getD ys i noBoard) (drop (suc i) ys) e
+  passed-here m h e = h ∙ ap (lookFrom (suc i) l) (drop-cons ys i noBoard m) ∙ look-here (suc i) l (getD ys i noBoard) (drop (suc i) ys) e
 
   pub passed-end : length ys ≤ i → Passed → placeOf l ys ≡ 0
   unfolding Passed lookFrom
@@ -36,7 +30,7 @@ passed-none l ys = refl
 
 pub passed-there : (l : Label) (ys : Boards) (i : ℕ) → i < length ys → Passed l ys i → sameLabel l (getD ys i noBoard .label) ≡ false → Passed l ys (suc i)
 unfolding Passed
-passed-there l ys i m h e = h ∙ ap (lookFrom (suc i) l) (drop-at ys i m) ∙ look-there (suc i) l (getD ys i noBoard) (drop (suc i) ys) e
+passed-there l ys i m h e = h ∙ ap (lookFrom (suc i) l) (drop-cons ys i noBoard m) ∙ look-there (suc i) l (getD ys i noBoard) (drop (suc i) ys) e
 
 -- ---- numbers: a loop starts at 0, and a board takes 42 bytes
 pub start : _≡_ {A = ℕ} 0 0
