@@ -7,7 +7,7 @@ use lib.Bits.{bitAnd, bitOr, bitXor, and-block, or-block, xor-block}
 use borrow.Author.Tests.{ne-eqb}
 use Rattle.lemmas.specs.Little.{little}
 use Rattle.lemmas.specs.Bytewise.{bytewise}
-use Rattle.lemmas.proofs.Bytewise.{Keeps, keeps, agree, bytewise-word, bytewise-same, bytewise-sum, bytewise-op, bytewise-quarter, bytewise-twice}
+use Rattle.lemmas.proofs.Bytewise.{Keeps, keeps, agree, Block, bytewise-word, bytewise-same, bytewise-sum, bytewise-op, bytewise-quarter, bytewise-twice}
 use Rattle.paper.specs.Bytes.{within}
 use Rattle.paper.specs.Label.{capital}
 
@@ -37,14 +37,8 @@ module _ (w : ℕ) (h : w < 256 ^ 8) where
     plus : Is e f → Is d g → Is (e + d) (λ x. f x + g x)
     plus p q = ap₂ _+_ p q ∙ bytewise-sum f g 8 w
 
-    and : Keeps f → Keeps g → Is e f → Is d g → Is (bitAnd e d) (λ x. bitAnd (f x) (g x))
-    and hf hg p q = ap₂ bitAnd p q ∙ bytewise-op bitAnd and-block refl f g hf hg 8 w
-
-    xor : Keeps f → Keeps g → Is e f → Is d g → Is (bitXor e d) (λ x. bitXor (f x) (g x))
-    xor hf hg p q = ap₂ bitXor p q ∙ bytewise-op bitXor xor-block refl f g hf hg 8 w
-
-    or : Keeps f → Keeps g → Is e f → Is d g → Is (bitOr e d) (λ x. bitOr (f x) (g x))
-    or hf hg p q = ap₂ bitOr p q ∙ bytewise-op bitOr or-block refl f g hf hg 8 w
+    on : (op : ℕ → ℕ → ℕ) → Block op → op 0 0 ≡ 0 → Keeps f → Keeps g → Is e f → Is d g → Is (op e d) (λ x. op (f x) (g x))
+    on op block none hf hg p q = ap₂ op p q ∙ bytewise-op op block none f g hf hg 8 w
 
   kept : Keeps (λ x. x)
   kept x l = l
@@ -57,21 +51,22 @@ module _ (w : ℕ) (h : w < 256 ^ 8) where
       let z : ℕ → ℕ = λ x. seven x + 0x05 in
       let differ : ℕ → ℕ = λ x. bitXor (a x) (z x) in
       let top : ℕ → ℕ = λ x. bitXor x 0x80 in
-      let p = and (λ x. x) (λ x. 0x7F) kept (keeps (λ x. 0x7F) tt) word refl in
-      let q = xor a z (keeps a tt) (keeps z tt) (plus seven (λ x. 0x1F) p refl) (plus seven (λ x. 0x05) p refl) in
-      let r = xor (λ x. x) (λ x. 0x80) kept (keeps (λ x. 0x80) tt) word refl in
-      and (λ x. bitAnd (differ x) (top x)) (λ x. 0x80) (keeps (λ x. bitAnd (differ x) (top x)) tt) (keeps (λ x. 0x80) tt) (and differ top (keeps differ tt) (keeps top tt) q r) refl
+      let both : ℕ → ℕ = λ x. bitAnd (differ x) (top x) in
+      let p = on (λ x. x) (λ x. 0x7F) bitAnd and-block refl kept (keeps (λ x. 0x7F) tt) word refl in
+      let q = on a z bitXor xor-block refl (keeps a tt) (keeps z tt) (plus seven (λ x. 0x1F) p refl) (plus seven (λ x. 0x05) p refl) in
+      let r = on (λ x. x) (λ x. 0x80) bitXor xor-block refl kept (keeps (λ x. 0x80) tt) word refl in
+      on both (λ x. 0x80) bitAnd and-block refl (keeps both tt) (keeps (λ x. 0x80) tt) (on differ top bitAnd and-block refl (keeps differ tt) (keeps top tt) q r) refl
 
   pub capitals-is : bitXor w (small w / 4) ≡ bytewise 8 capital w
   unfolding capital within
   capitals-is =
       let bit : ℕ → ℕ = λ x. smallByte x / 4 in
-      xor (λ x. x) bit kept (keeps bit tt) word (ap (λ (s : ℕ). s / 4) small-is ∙ bytewise-quarter smallByte bit (agree smallByte (λ x. 4 * bit x) tt) 8 w)
+      on (λ x. x) bit bitXor xor-block refl kept (keeps bit tt) word (ap (λ (s : ℕ). s / 4) small-is ∙ bytewise-quarter smallByte bit (agree smallByte (λ x. 4 * bit x) tt) 8 w)
       ∙ bytewise-same (λ x. bitXor x (bit x)) capital (agree (λ x. bitXor x (bit x)) capital tt) 8 w
 
   pub either-case-is : bitOr w 0x2020_2020_2020_2020 ≡ bytewise 8 (λ x. bitOr x 0x20) w
   unfolding little
-  either-case-is = or (λ x. x) (λ x. 0x20) kept (keeps (λ x. 0x20) tt) word refl
+  either-case-is = on (λ x. x) (λ x. 0x20) bitOr or-block refl kept (keeps (λ x. 0x20) tt) word refl
 
 -- ---- words that differ though the bit is set have other capitals
 abbrev pub eitherCase : ℕ → ℕ

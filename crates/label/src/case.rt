@@ -4,7 +4,8 @@ ghost use lib.Bits.{bitOr};
 ghost use Rattle.lemmas.specs.Bytewise.{bytewise};
 ghost use Rattle.paper.specs.Label.{capital};
 
-// Each byte's capital. Of each byte seven bits are added to, so that no sum reaches the next byte: bit 7 of a sum then says whether the byte is at a or past it, or past z.
+// Each byte's capital. Of each byte only seven bits are added to, so that no sum reaches the next byte: bit 7 of a sum then says whether the byte is at a or past it, or past z.
+// It is that bit of the byte itself which must not be set; and two places down it is the bit of a letter's case.
 pub(crate) fn capitals(w: u64) -> u64
     ensures { λ r. ⌜ r ≡ bytewise 8 capital w ⌝ }
 {
@@ -15,7 +16,7 @@ pub(crate) fn capitals(w: u64) -> u64
     w ^ (small / 4)
 }
 
-// Each byte with the bit set that tells a letter from its capital: labels that differ all the same differ in more than case.
+// Each byte with the bit set that tells a letter from its capital: what still differs then, differs in more than case.
 pub(crate) fn either_case(w: u64) -> u64
     ensures { λ r. ⌜ r ≡ bytewise 8 (λ x. bitOr x 0x20) w ⌝ }
 {

@@ -15,7 +15,7 @@ pub(crate) fn labelled(b: Board, label: [u8; 12]) -> bool
     same_label(label, l)
 }
 
-// The first place whose twelve bytes agree, counted from 1; none: 0.
+// The first place with the label, counted from 1; none: 0. One is added behind the loop: inside, the compiler would carry a third counter through it.
 pub(crate) fn find(boards: &[Board], label: [u8; 12]) -> usize
     ensures { λ r. ⌜ r ≡ placeOf label (now (boards .entry)) ⌝ }
 {

@@ -43,7 +43,11 @@ unfolding little
 bytewise-sum f g zero w = refl
 bytewise-sum f g (suc n) w = omega (arith, bytewise-sum f g n (w / 256))
 
-module _ (op : ℕ → ℕ → ℕ) (block : (k a b r s : ℕ) → r < 2 ^ k → s < 2 ^ k → op (a * 2 ^ k + r) (b * 2 ^ k + s) ≡ op a b * 2 ^ k + op r s) (none : op 0 0 ≡ 0) where
+-- an operation that works on the k low bits and on the rest apart
+abbrev pub Block : (ℕ → ℕ → ℕ) → Type 0
+Block op = (k a b r s : ℕ) → r < 2 ^ k → s < 2 ^ k → op (a * 2 ^ k + r) (b * 2 ^ k + s) ≡ op a b * 2 ^ k + op r s
+
+module _ (op : ℕ → ℕ → ℕ) (block : Block op) (none : op 0 0 ≡ 0) where
   high-first : (x m : ℕ) → x + 256 * m ≡ m * 2 ^ 8 + x
   high-first x m = omega arith
 
