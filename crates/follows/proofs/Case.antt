@@ -60,7 +60,7 @@ capitals-once [] = refl
 capitals-once (x ∷ l) = λ i. capital-once x i ∷ capitals-once l i
 
 -- its form, and being twelve spaces, do not depend on case
-blank-capitals : (l : Label) → blank l ≡ blank (capitals l)
+pub blank-capitals : (l : Label) → blank l ≡ blank (capitals l)
 unfolding blank
 blank-capitals [] = refl
 blank-capitals (x ∷ l) = λ i. capital-space x i && blank-capitals l i

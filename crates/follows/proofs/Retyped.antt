@@ -1,21 +1,21 @@
--- 02, R-3: a network and a fault typed in another case. Whatever the bytes, damaged ones too, the answer or the refusal and the buffer stay; so does what writing boards returns. Assumes nothing.
+-- 02, R-3: a network and a fault typed in another case. Whatever the bytes, damaged ones too, the answer or the refusal and the buffer stay; so does what writing boards returns; bytes shown back differ in their case alone. Assumes nothing.
 use mathlib.Core.Bool.{Bool, true, false, not, cond, _&&_}
 use mathlib.Core.List.{List, [], _∷_, map}
 use mathlib.Core.Option.{Option}
 use mathlib.Core.Path.{_≡_, refl, sym, _∙_, ap}
-use Prim.Native.Nat.{ℕ, zero, suc, _+_, _*_, _-_, _%_, _≤_, _<_}
+use Prim.Native.Nat.{ℕ, zero, suc, _+_, _*_, _-_, _%_, _≤_, _<_, min}
 use native.Mathlib.Nat.{mod-eq-of-lt, add-mod-left}
 use native.Mathlib.Omega.{arith}
 use lib.Dec.{leb, ltb, eqb}
 use lib.IntN.{ℤ}
-use lib.ListN.{length, take, drop, length-take, List·getD-eq-default}
-use lib.Seq.{getD-take, getD-drop}
+use lib.ListN.{length, getD, take, drop, length-map, length-take, length-drop, List·getD-map, List·getD-eq-default}
+use lib.Seq.{getD-take, getD-drop, ext-getD}
 use borrow.Author.Tests.{ltb-true, ltb-false, le-leb}
 use Rattle.paper.specs.declared.Ohms.{Ohms}
 use Rattle.paper.specs.declared.Board.{Board}
 use Rattle.paper.specs.declared.Refusal.{Refusal}
 use Rattle.paper.specs.declared.Lent.the-variants.{NetworkBytes, FaultBytes}
-use Rattle.paper.specs.Bytes.{u8At, bytesAt, within, part}
+use Rattle.paper.specs.Bytes.{u8At, bytesAt, cut, within, part}
 use Rattle.paper.specs.Label.{capital, capitals}
 use Rattle.paper.specs.Kind.{ohms, partOver}
 use Rattle.paper.specs.File.{markOf, HD, BD, FT, headOf, headSize, boardOf, boardSize, labelSize, faultOf, faultSize, fileSize, records, recordsOf, decoded, boardsOf}
@@ -222,7 +222,7 @@ module _ {net net′ : List ℕ} (typed : Retyped inNetwork net net′) where
     asked-alike = λ j. record { head = head-alike j; boards = boards-alike j; fault = fault-alike j; k = place-alike j }
 
     -- what is told of a refusal and a question, the same of a question in capitals
-    told-alike : {X : Type 0} (told : Option Refusal → Asked → X) → ((r : Option Refusal) (q : Asked) → told r q ≡ told r (upperAsked q))
+    pub told-alike : {X : Type 0} (told : Option Refusal → Asked → X) → ((r : Option Refusal) (q : Asked) → told r q ≡ told r (upperAsked q))
         → (room : ℕ)
         → told (refusal net flt room) (asked net flt) ≡ told (refusal net′ flt′ room) (asked net′ flt′)
     told-alike told same room =
@@ -239,6 +239,21 @@ case-written n f buffer = told-alike n f (λ r q. after r q buffer) (λ r q. aft
 
 pub case-write : (bs bs′ : Boards) → Alike bs bs′ → (volts unit room : ℕ) → writeVerdict volts unit bs room ≡ writeVerdict volts unit bs′ room
 case-write bs bs′ a volts unit room = by-capitals uppers (λ us. writeVerdict volts unit us room) (write-upper volts unit room) bs bs′ a
+
+-- and of any part that is shown back, as typed, the same in capitals
+pub case-shown : {typed : ℕ → Bool} {s t : List ℕ} → Retyped typed s t → (start len : ℕ) → capitals (cut s start len) ≡ capitals (cut t start len)
+case-shown {s = s} {t} r start len =
+    ext-getD (capital 0) _ _ (size s ∙ (λ j. min len (r .same-length j - start)) ∙ sym (size t))
+    (λ i l. at s i ∙ first-read capital (drop start s) (drop start t) len i (λ m. rest-reads by-case-alone start i) ∙ sym (at t i))
+  where
+    size : (l : List ℕ) → length (capitals (cut l start len)) ≡ min len (length l - start)
+    size l = length-map (cut l start len) capital ∙ length-take len (drop start l) ∙ ap (min len) (length-drop start l)
+
+    at : (l : List ℕ) (i : ℕ) → getD (capitals (cut l start len)) i (capital 0) ≡ capital (u8At (cut l start len) i)
+    at l i = List·getD-map capital (cut l start len) i 0
+
+    by-case-alone : ReadAlike (λ i. true) s t
+    by-case-alone = record { reads = r .by-case }
 
 -- ---- the premise can be met: any bytes may be typed in capitals where labels stand
 unfoldable pub inCapitals : (ℕ → Bool) → List ℕ → List ℕ

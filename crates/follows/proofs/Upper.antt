@@ -210,7 +210,7 @@ module _ (q : Asked) where
       shortOf (numOf (own (λ b. b .z1) i)) (numOf (own (λ b. b .z2) i)) (numOf (sumΩ (terms0 boards i) (zero-chains boards i k))) (numOf (fault .zf))
       (isNone (earths boards i k)) (fault .kind)
 
-  D-upper : theD q ≡ theD up
+  pub D-upper : theD q ≡ theD up
   unfolding theD
   D-upper = ap D short-upper
 
@@ -235,11 +235,25 @@ module _ (q : Asked) where
       let on = oneOf j (chains boards i k) in
       seq (onlyIf on (I-upper i .s1)) (onlyIf on (I-upper i .s2)) (onlyIf (oneOf j (zero-chains boards i k)) (I-upper i .s0))
 
+  -- three phases at board j
+  abbrev three : ℕ → Seq → (i : 𝕀) → List (List ℤ)
+  three j X i = phases (fault .phase) (turns boards i j) (turns boards i k) X
+
+  pub voltages-upper : (j : ℕ) → boardVoltages q j ≡ boardVoltages up j
+  unfolding boardVoltages
+  voltages-upper j = λ i. three j (voltage-upper j i) i
+
+  pub currents-upper : (j : ℕ) → recordCurrents q j ≡ recordCurrents up j
+  unfolding recordCurrents
+  currents-upper j = λ i. three j (current-upper j i) i
+
+  pub fault-upper : faultCurrents q ≡ faultCurrents up
+  unfolding faultCurrents
+  fault-upper = λ i. phases (fault .phase) 0 0 (I-upper i)
+
   board-upper : (j : ℕ) → ofBoard q j ≡ ofBoard up j
-  unfolding ofBoard boardVoltages recordCurrents
-  board-upper j = λ i.
-      let shown : Seq → List ℤ = λ X. flat (phases (fault .phase) (turns boards i j) (turns boards i k) X) in
-      shown (voltage-upper j i) ++ shown (current-upper j i)
+  unfolding ofBoard
+  board-upper j = λ i. flat (voltages-upper j i) ++ flat (currents-upper j i)
 
   all-upper : (r n : ℕ) → ofBoards q r n ≡ ofBoards up r n
   unfolding ofBoards
@@ -247,12 +261,12 @@ module _ (q : Asked) where
   all-upper r (suc n) = λ i. board-upper r i ++ all-upper (suc r) n i
 
   numbers-upper : numbers q ≡ numbers up
-  unfolding numbers faultCurrents
+  unfolding numbers
   numbers-upper =
       let all = all-upper 1 (length boards) ∙ ap (ofBoards up 1) (count boards) in
-      λ i. D-upper i ∷ (flat (phases (fault .phase) 0 0 (I-upper i)) ++ all i)
+      λ i. D-upper i ∷ (flat (fault-upper i) ++ all i)
 
-  amps-upper : amps q ≡ amps up
+  pub amps-upper : amps q ≡ amps up
   unfolding amps ampsOver ampsUnder saidSquare said
   amps-upper = rw (I-upper, D-upper)
 
