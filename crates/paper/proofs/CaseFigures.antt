@@ -35,7 +35,7 @@ caseCalls =
     ∷ call (head 230 1000 3 ++ gen ++ booth ++ cable "Tent" "Booth-West-1") (ft "TENT" 1 0 (j 0)) 85 (taken 3 3 2029) (at 0 (pos 115600 ∷ pos 900 ∷ pos 0 ∷ pos 0 ∷ neg 480 ∷ []) ∷ [])
     -- 7: Booth-West-1 is used
     ∷ third "BOOTH-WEST-1" "Booth-West-1" "GEN" 7
-    -- every letter, at every place of a label
+    -- every letter, and each place of a label
     ∷ found "ABCDEFGHIJKL" "abcdefghijkl"
     ∷ found "mnopqrstuvwx" "MNOPQRSTUVWX"
     ∷ found "yZ" "Yz"
