@@ -43,8 +43,8 @@ int agree(const question *q) {
 }
 
 /* Every kind and phase at a few boards. */
-static int each_fault(question *q, int n) {
-    int asked = 0;
+static int each_fault(question *q) {
+    int n = (int)q->n, asked = 0;
     for (int i = 0; i < 4; i++)
         for (int kind = 0; kind < 4; kind++)
             for (int phase = 0; phase < 3; phase++, asked++) {
@@ -55,45 +55,13 @@ static int each_fault(question *q, int n) {
     return asked;
 }
 
-/* A byte of another value, or the bit of a letter's case changed, in a label or not. */
-static void damage(question *q, int small) {
-    uint8_t *s = &q->network[chance((uint32_t)q->network_len)];
-    switch (chance(4)) {
-    case 0:
-        *s ^= 0x20;
-        break;
-    case 1:
-        q->fault[2 + chance(12)] ^= 0x20;
-        break;
-    default:
-        *s = (uint8_t)chance(small ? 6 : 256);
-    }
-}
-
-/* One to three bytes changed: mostly refused, each time by another rule. */
-static int damaged(const question *whole) {
-    for (int i = 0; i < 200; i++) {
-        question q = *whole;
-        for (uint32_t changes = 1 + chance(3); changes; changes--)
-            damage(&q, i % 2);
-        if (!agree(&q))
-            return 0;
-    }
-    return 200;
+static int questions_agree(question *q) {
+    int more = each_fault(q), torn = damaged(q, agree);
+    unearth(q);
+    int bare = each_fault(q);
+    return more && torn && bare ? more + torn + bare : 0;
 }
 
 int agree_on_many(void) {
-    static question q;
-    int asked = 0;
-    for (int shape = 0; shape < SHAPES; shape++)
-        for (int n = 1; n <= 256; n = n < 8 ? n + 1 : 2 * n) {
-            make_network(&q, shape, n);
-            int more = each_fault(&q, n), torn = damaged(&q);
-            unearth(&q);
-            int bare = each_fault(&q, n);
-            if (!more || !torn || !bare)
-                return 0;
-            asked += more + torn + bare;
-        }
-    return asked;
+    return on_networks(questions_agree);
 }

@@ -127,28 +127,12 @@ static int spoilt(const question *q) {
     return tried;
 }
 
-/* Every number that a writer has must have come. */
-static int all_came(void) {
-    for (int number = 0; number < 256; number++) {
-        int has = number == 0 || number == 3 || (number >= 6 && number <= 11) || number == 20;
-        if (has != (numbers[number] > 0)) {
-            printf("the writers said %d %d times\n", number, numbers[number]);
-            return 0;
-        }
-    }
-    return 1;
+static int files_agree(question *q) {
+    int sound = agree_on_file(q), more = sound ? spoilt(q) : 0;
+    return more ? sound + more : 0;
 }
 
 int agree_on_many_files(void) {
-    static question q;
-    int tried = 0;
-    for (int shape = 0; shape < SHAPES; shape++)
-        for (int n = 1; n <= 256; n = n < 8 ? n + 1 : 2 * n) {
-            make_network(&q, shape, n);
-            int sound = agree_on_file(&q), more = sound ? spoilt(&q) : 0;
-            if (!more)
-                return 0;
-            tried += sound + more;
-        }
-    return all_came() ? tried : 0;
+    int tried = on_networks(files_agree);
+    return tried && all_came("write", numbers, 1 << 0 | 1 << 3 | 0x3f << 6 | 1 << 20) ? tried : 0;
 }

@@ -23,6 +23,14 @@ ranjupeli_answer exact_solve(const uint8_t *network, size_t network_len, const u
 /* the real and the imaginary part of each voltage and current, where the others have four numbers */
 ranjupeli_answer doubles_solve(const uint8_t *network, size_t network_len, const uint8_t *fault, size_t fault_len, double *buffer, size_t buffer_len);
 ranjupeli_written exact_write(uint16_t volts, uint16_t unit, const ranjupeli_board *boards, size_t boards_len, uint8_t *out, size_t out_len);
+ranjupeli_earth_return exact_earth(const uint8_t *network, size_t network_len, const uint8_t *label, size_t label_len);
+
+/* networks of every shape and many sizes, each tried by a function that says how often: the sum; 0 where some differ */
+int on_networks(int (*agreed)(question *));
+/* the network with one to three bytes changed or cut off, each time another, mostly refused, each time by another rule: the same */
+int damaged(const question *whole, int (*agreed)(const question *));
+/* whether exactly these numbers came, a bit for each */
+int all_came(const char *who, const int came[256], uint32_t which);
 
 /* whether the three agree on a question: exactly, and nearly */
 int agree(const question *q);
@@ -32,9 +40,13 @@ int agree_on_many(void);
 int agree_on_file(const question *q);
 /* sound and spoilt boards, in outputs of several lengths: how many; 0 where some differ */
 int agree_on_many_files(void);
+/* whether both say the same of the earth return of the fault's board */
+int agree_on_label(const question *q);
+/* all labels of some networks, labels of all lengths, and damaged networks: how many; 0 where some differ */
+int agree_on_many_labels(void);
 
-/* who is called: the solvers, and behind them the writers */
-enum { OURS, EXACT, DOUBLES, SOLVERS, OUR_WRITER = SOLVERS, EXACT_WRITER, ALL };
+/* who is called: the solvers, behind them the writers, and behind them those that look for an earth return */
+enum { OURS, EXACT, DOUBLES, SOLVERS, OUR_WRITER = SOLVERS, EXACT_WRITER, WRITERS, OUR_EARTH = WRITERS, EXACT_EARTH, ALL };
 void run(int who, const question *q);
 /* the bytes of stack that a call takes, its own frame and all below */
 size_t stack_of(int who, const question *q);

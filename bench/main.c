@@ -2,14 +2,24 @@
 #include "bench.h"
 #include <stdio.h>
 #include <stdlib.h>
+#include <string.h>
 #include <time.h>
 
-enum { ROUNDS = 100, SIZES = 3 };
+enum { ROUNDS = 100, SIZES = 3, TABLES = 3 };
 static const int sizes[SIZES] = {1, 32, 256};
-static const char *const names[ALL] = {"ours", "exact", "doubles", "ours", "exact"};
 static int64_t numbers[RANJUPELI_MOST];
 static double doubles[MOST_DOUBLES];
 static uint8_t file[MOST_BYTES];
+
+/* what is measured: those from first to end in turn, ours first, on questions on which they agree */
+typedef struct {
+    const char *name;
+    int first, end;
+    int (*agreed)(const question *);
+} table;
+
+static const table tables[TABLES] = {{"solve", OURS, SOLVERS, agree}, {"write", OUR_WRITER, WRITERS, agree_on_file}, {"earth", OUR_EARTH, ALL, agree_on_label}};
+static const char *const names[ALL] = {"ours", "exact", "doubles", "ours", "exact", "ours", "exact"};
 
 void run(int who, const question *q) {
     switch (who) {
@@ -25,8 +35,14 @@ void run(int who, const question *q) {
     case OUR_WRITER:
         ranjupeli_write(VOLTS, UNIT, q->boards, q->n, file, sizeof file);
         break;
-    default:
+    case EXACT_WRITER:
         exact_write(VOLTS, UNIT, q->boards, q->n, file, sizeof file);
+        break;
+    case OUR_EARTH:
+        ranjupeli_earth(q->network, q->network_len, q->fault + 2, 12);
+        break;
+    default:
+        exact_earth(q->network, q->network_len, q->fault + 2, 12);
     }
 }
 
@@ -51,18 +67,18 @@ static int calls(int who, const question *q) {
     return times;
 }
 
-/* The best of several rounds, those from first to end in turn. */
-static void measure(const question *q, int first, int end, double best[ALL]) {
+/* The best of several rounds, all of a table in turn. */
+static void measure(const question *q, const table *t, double best[ALL]) {
     int times[ALL];
-    for (int who = first; who < end; who++) {
+    for (int who = t->first; who < t->end; who++) {
         times[who] = calls(who, q);
         best[who] = batch(who, q, times[who]);
     }
     for (int round = 0; round < ROUNDS; round++)
-        for (int who = first; who < end; who++) {
-            double t = batch(who, q, times[who]);
-            if (t < best[who])
-                best[who] = t;
+        for (int who = t->first; who < t->end; who++) {
+            double took = batch(who, q, times[who]);
+            if (took < best[who])
+                best[who] = took;
         }
 }
 
@@ -72,49 +88,51 @@ static void ask(question *q, int shape, int n) {
     make_fault(q, n, 3, 1, 2, 3);
 }
 
-static void print_growth(int shape, int first, int end, double best[SIZES][ALL]) {
+static void print_head(const table *t) {
+    printf("%-6s %4s", t->name, "N");
+    for (int who = t->first; who < t->end; who++)
+        printf(" %7s us", names[who]);
+    for (int who = t->first + 1; who < t->end; who++)
+        printf("  ours/%s", names[who]);
+    printf("\n");
+}
+
+static void print_row(const table *t, int shape, int n, const double best[ALL]) {
+    printf("%-6s %4d", shape_names[shape], n);
+    for (int who = t->first; who < t->end; who++)
+        printf(" %10.3f", best[who] * 1e6);
+    for (int who = t->first + 1; who < t->end; who++)
+        printf(" %*.2f", 6 + (int)strlen(names[who]), best[t->first] / best[who]);
+    printf("\n");
+}
+
+static void print_growth(const table *t, int shape, double best[SIZES][ALL]) {
     printf("%-6s growth from 32 to 256:", shape_names[shape]);
-    for (int who = first; who < end; who++)
+    for (int who = t->first; who < t->end; who++)
         printf(" %s %.1f", names[who], best[2][who] / best[1][who]);
     printf("\n");
 }
 
-static int time_solvers(int shape) {
+static int time_shape(const table *t, int shape) {
     static question q;
     double best[SIZES][ALL];
     for (int i = 0; i < SIZES; i++) {
         ask(&q, shape, sizes[i]);
-        if (!agree(&q))
+        if (!t->agreed(&q))
             return 0;
-        double *t = best[i];
-        measure(&q, OURS, SOLVERS, t);
-        printf("%-6s %4d %10.2f %10.2f %10.2f %9.2f %9.2f\n", shape_names[shape], sizes[i], t[OURS] * 1e6, t[EXACT] * 1e6, t[DOUBLES] * 1e6, t[OURS] / t[EXACT], t[OURS] / t[DOUBLES]);
+        measure(&q, t, best[i]);
+        print_row(t, shape, sizes[i], best[i]);
     }
-    print_growth(shape, OURS, SOLVERS, best);
-    return 1;
-}
-
-static int time_writers(int shape) {
-    static question q;
-    double best[SIZES][ALL];
-    for (int i = 0; i < SIZES; i++) {
-        ask(&q, shape, sizes[i]);
-        if (!agree_on_file(&q))
-            return 0;
-        double *t = best[i];
-        measure(&q, OUR_WRITER, ALL, t);
-        printf("%-6s %4d %10.3f %10.3f %20.2f\n", shape_names[shape], sizes[i], t[OUR_WRITER] * 1e6, t[EXACT_WRITER] * 1e6, t[OUR_WRITER] / t[EXACT_WRITER]);
-    }
-    print_growth(shape, OUR_WRITER, ALL, best);
+    print_growth(t, shape, best);
     return 1;
 }
 
 /* The first call of a function of the C library goes through the loader, which takes stack of its own: so once before. */
-static void print_stack(const char *what, int first, int end) {
+static void print_stack(const table *t) {
     static question q;
     ask(&q, 0, 256);
-    printf("stack in bytes, %s:", what);
-    for (int who = first; who < end; who++) {
+    printf("stack in bytes, %s:", t->name);
+    for (int who = t->first; who < t->end; who++) {
         run(who, &q);
         printf(" %s %zu", names[who], stack_of(who, &q));
     }
@@ -122,16 +140,14 @@ static void print_stack(const char *what, int first, int end) {
 }
 
 static int time_all(void) {
-    printf("%-6s %4s %10s %10s %10s %9s %9s\n", "solve", "N", "ours us", "exact us", "doubles us", "ours/ex", "ours/dbl");
-    for (int shape = 0; shape < SHAPES; shape++)
-        if (!time_solvers(shape))
-            return 1;
-    printf("%-6s %4s %10s %10s %20s\n", "write", "N", "ours us", "exact us", "ours/ex");
-    for (int shape = 0; shape < SHAPES; shape++)
-        if (!time_writers(shape))
-            return 1;
-    print_stack("solve", OURS, SOLVERS);
-    print_stack("write", OUR_WRITER, ALL);
+    for (const table *t = tables; t < tables + TABLES; t++) {
+        print_head(t);
+        for (int shape = 0; shape < SHAPES; shape++)
+            if (!time_shape(t, shape))
+                return 1;
+    }
+    for (const table *t = tables; t < tables + TABLES; t++)
+        print_stack(t);
     return 0;
 }
 
@@ -143,10 +159,11 @@ int main(int argc, char **argv) {
             run(atoi(argv[3]), &q);
         return 0;
     }
-    int asked = agree_on_many(), written = asked ? agree_on_many_files() : 0;
-    if (!asked || !written)
+    int asked = agree_on_many(), written = asked ? agree_on_many_files() : 0, labels = written ? agree_on_many_labels() : 0;
+    if (!asked || !written || !labels)
         return 1;
     printf("%d questions, sound and damaged: all numbers agree\n", asked);
     printf("%d files, sound and refused: all bytes agree\n", written);
+    printf("%d labels, of sound and damaged networks: all replies agree\n", labels);
     return time_all();
 }

@@ -7,16 +7,6 @@ static uint8_t network[16384];
 static uint8_t fault[21];
 static int64_t numbers[RANJUPELI_MOST];
 
-/* A missing file counts as empty. */
-static size_t read_file(const char *name) {
-    FILE *file = fopen(name, "rb");
-    if (!file)
-        return 0;
-    size_t n = fread(network, 1, sizeof network, file);
-    fclose(file);
-    return n;
-}
-
 static void print_numbers(void) {
     for (unsigned number = 0; number <= RANJUPELI_SHORT_OUTPUT; number++)
         printf("%u %s\n", number, ranjupeli_sentence(number));
@@ -27,7 +17,7 @@ int main(int argc, char **argv) {
         print_numbers();
         return 0;
     }
-    size_t network_len = read_file(argv[1]);
+    size_t network_len = read_file(argv[1], network, sizeof network);
     size_t fault_len = fread(fault, 1, sizeof fault, stdin);
     ranjupeli_answer a = ranjupeli_solve(network, network_len, fault, fault_len, numbers, RANJUPELI_MOST);
     print_answer(a, network, fault, numbers);

@@ -50,6 +50,16 @@ static inline void print_answer(ranjupeli_answer a, const uint8_t *network, cons
         print_refused(a.number, a.place);
 }
 
+/* How many bytes are read. A missing file counts as empty. */
+static inline size_t read_file(const char *name, uint8_t *into, size_t room) {
+    FILE *file = fopen(name, "rb");
+    if (!file)
+        return 0;
+    size_t n = fread(into, 1, room, file);
+    fclose(file);
+    return n;
+}
+
 /* Status 0: the whole file is written. */
 static inline int write_file(const char *name, const uint8_t *bytes, size_t len) {
     FILE *file = fopen(name, "wb");

@@ -1,17 +1,19 @@
 /* Ranjupeli for C: short circuits of a radial network, answered exactly or refused by the first rule broken;
- * and the file of a network, written from its boards or refused by the same rules.
+ * the file of a network, written from its boards or refused by the same rules;
+ * and the record that a board's earth return comes from, or the one that stops it.
  *
  * Link target/staticlib/libranjupeli.a (`rt staticlib ranjupeli` proves and writes it) into a program for x86-64 Linux.
- * It has two functions, ranjupeli_solve and ranjupeli_write. What they do is proved: crates/ranjupeli/src/lib.rt has
- * their contracts, docs/CONTRACTS.md says them in words; docs/FORMAT.md explains the fields and what to do about a refusal.
+ * It has three functions, ranjupeli_solve, ranjupeli_write and ranjupeli_earth. What they do is proved:
+ * crates/ranjupeli/src/lib.rt has their contracts, docs/CONTRACTS.md says them in words; docs/FORMAT.md explains the fields and
+ * what to do about a refusal.
  *
  * Limits, and what the caller answers for (nothing can prove it of C):
  * - x86-64 only. They need memcpy and memset, and nothing else: no heap, no files, no locale, no state between calls.
  * - They start no thread and take no lock. Calls in several threads do not meet, as long as no two share a buffer or an output.
  * - Stack: less than 48 KB below the caller (docs/SPEED.md has the table). Give a thread that calls them 64 KB or more.
- * - No pointer is null, even where its length is 0: no boards, no output. Each length is true.
+ * - No pointer is null, even where its length is 0: no boards, no output, no label. Each length is true.
  * - The buffer is aligned for int64_t and overlaps neither file; the output does not overlap the boards.
- * - Any bytes and any boards may be lent, of any length. An accepted network has 8 + 44 N bytes, N from 1 to 256; a fault has 20.
+ * - Any bytes and any boards may be lent, of any length. An accepted network has 8 + 44 N bytes, N from 1 to 256; a fault has 20, a label 12.
  * - The buffer needs 13 + 24 N numbers. A shorter one is refused (19); RANJUPELI_MOST is enough for every network.
  * - The output needs 8 + 44 N bytes. A shorter one is refused (20); RANJUPELI_LONGEST is enough for every network. */
 #ifndef RANJUPELI_H
@@ -32,8 +34,8 @@ extern "C" {
 #define RANJUPELI_LONGEST RANJUPELI_FILE(256)
 
 /* the numbers of an answer: 0, or the rule that was broken first, in the order in which they are tested.
- * ranjupeli_solve gives 0 to 17 and 19, ranjupeli_write 0, 3, 6 to 11 and 20. No answer has 18 any more, and none will:
- * it refused earth faults at boards without earth return, which are answered now. */
+ * ranjupeli_solve gives 0 to 17 and 19, ranjupeli_write 0, 3, 6 to 11 and 20, ranjupeli_earth 0 to 11 and 14.
+ * No answer has 18 any more, and none will: it refused earth faults at boards without earth return, which are answered now. */
 enum {
     RANJUPELI_ACCEPTED = 0,
     RANJUPELI_SHORT_NETWORK = 1,    /* network under 8 bytes */
@@ -49,7 +51,7 @@ enum {
     RANJUPELI_SUM = 11,             /* part of Z1, Z2 or an existing Z0 over 4,095 */
     RANJUPELI_FAULT_LENGTH = 12,    /* fault not 20 bytes */
     RANJUPELI_FAULT_MARK = 13,      /* fault mark */
-    RANJUPELI_UNKNOWN_BOARD = 14,   /* no board has the label, in any case */
+    RANJUPELI_UNKNOWN_BOARD = 14,   /* no board has the label, in any case; one that is not of twelve bytes is no board's */
     RANJUPELI_FAULT_KIND = 15,      /* fault kind over 3 */
     RANJUPELI_FAULT_PHASE = 16,     /* phase over 2, or kind 0 with phase not 0 */
     RANJUPELI_FAULT_IMPEDANCE = 17, /* part of Zf over 1,365 */
@@ -57,7 +59,8 @@ enum {
     RANJUPELI_SHORT_OUTPUT = 20     /* output shorter than the file */
 };
 
-enum { RANJUPELI_NETWORK = 0, RANJUPELI_FAULT = 1 };
+/* whose bytes an answer shows */
+enum { RANJUPELI_NETWORK = 0, RANJUPELI_FAULT = 1, RANJUPELI_LABEL = 2 };
 
 /* Accepted: number 0, the place of the faulted board (from 1), N, the amps, and that board's record.
  * Refused: the number of the rule, the place that it names (0: none), N = 0, amps = 0, and the bytes that it shows. */
@@ -78,16 +81,21 @@ ranjupeli_answer ranjupeli_solve(const uint8_t *network, size_t network_len,
                                  const uint8_t *fault, size_t fault_len,
                                  int64_t *buffer, size_t buffer_len);
 
-/* The bytes that an answer shows, a part of what was lent: pass the same network and fault again. */
+/* Bytes, a part of what was lent. */
 typedef struct {
     const uint8_t *bytes;
     size_t len;
 } ranjupeli_bytes;
 
+/* len bytes of what was lent, from start on */
+static inline ranjupeli_bytes ranjupeli_part(const uint8_t *lent, size_t start, size_t len) {
+    ranjupeli_bytes part = {lent + start, len};
+    return part;
+}
+
+/* The bytes that an answer shows: pass the same network and fault again. */
 static inline ranjupeli_bytes ranjupeli_shown(ranjupeli_answer answer, const uint8_t *network, const uint8_t *fault) {
-    const uint8_t *lent = answer.owner == RANJUPELI_NETWORK ? network : fault;
-    ranjupeli_bytes shown = {lent + answer.start, answer.len};
-    return shown;
+    return ranjupeli_part(answer.owner == RANJUPELI_NETWORK ? network : fault, answer.start, answer.len);
 }
 
 /* An impedance r + jx, in counts: a count is as many microohms as the unit says. */
@@ -124,7 +132,7 @@ _Static_assert(sizeof(ranjupeli_board) == 42, "the archive's boards are 42 bytes
 #endif
 
 /* A text as a label, spaces behind it. One of more than twelve characters is not cut, for that could name another board:
- * it becomes zeros, and so a label of wrong form (6) and no board's feeder (8). */
+ * it becomes zeros, and so a label of wrong form (6), no board's feeder (8) and no board's label (14). */
 static inline void ranjupeli_label(uint8_t label[12], const char *text) {
     size_t n = 0, i;
     while (n <= 12 && text[n] != 0)
@@ -147,10 +155,33 @@ ranjupeli_written ranjupeli_write(uint16_t volts, uint16_t unit,
                                   const ranjupeli_board *boards, size_t boards_len,
                                   uint8_t *out, size_t out_len);
 
+/* Accepted: number 0, and the record that the answer names (from 1): where the board's zero sequence starts (earthed 1), or what stops
+ * it (earthed 0), the nearest record from the board to the source that is a floating source or a blocking transformer. No bytes are shown.
+ * Refused: the number of the rule, the place that it names (0: none), earthed 0, and the bytes that it shows. */
+typedef struct {
+    size_t start;    /* the bytes shown: from start on, len of them, */
+    size_t len;
+    uint16_t place;
+    uint8_t number;
+    uint8_t owner;   /* of the network or of the label: RANJUPELI_NETWORK, RANJUPELI_LABEL */
+    uint8_t earthed; /* 1: earth return from record place; 0: none, stopped at record place */
+} ranjupeli_earth_return;
+
+/* Whether the board with this label has an earth return, and which record to thank or to blame: for a crew whose loop tester shows nothing.
+ * The label is typed in any case and has twelve bytes, as ranjupeli_label makes them of a text; one of more or fewer is refused (14).
+ * A network is refused as by ranjupeli_solve, and before the label. */
+ranjupeli_earth_return ranjupeli_earth(const uint8_t *network, size_t network_len,
+                                       const uint8_t *label, size_t label_len);
+
+/* The bytes that it shows: pass the same network and label again. */
+static inline ranjupeli_bytes ranjupeli_earth_shown(ranjupeli_earth_return e, const uint8_t *network, const uint8_t *label) {
+    return ranjupeli_part(e.owner == RANJUPELI_NETWORK ? network : label, e.start, e.len);
+}
+
 /* What a number says, for a reader. */
 static inline const char *ranjupeli_sentence(unsigned number) {
     switch (number) {
-    case RANJUPELI_ACCEPTED: return "accepted: the fault is answered, or the file is written";
+    case RANJUPELI_ACCEPTED: return "accepted: the question is answered, or the file is written";
     case RANJUPELI_SHORT_NETWORK: return "the network has under 8 bytes";
     case RANJUPELI_HEAD_MARK: return "the head does not begin with HD";
     case RANJUPELI_HEAD_VALUES: return "the volts, the unit or the number of boards is out of its range";
@@ -164,7 +195,7 @@ static inline const char *ranjupeli_sentence(unsigned number) {
     case RANJUPELI_SUM: return "a part of an impedance summed over a board's chain is over 4,095";
     case RANJUPELI_FAULT_LENGTH: return "the fault does not have 20 bytes";
     case RANJUPELI_FAULT_MARK: return "the fault does not begin with FT";
-    case RANJUPELI_UNKNOWN_BOARD: return "no board has the fault's label";
+    case RANJUPELI_UNKNOWN_BOARD: return "no board has the label";
     case RANJUPELI_FAULT_KIND: return "the fault's kind is over 3";
     case RANJUPELI_FAULT_PHASE: return "the fault's phase is over 2, or not 0 in a fault of all three phases";
     case RANJUPELI_FAULT_IMPEDANCE: return "a part of the fault's impedance is over 1,365";

@@ -157,6 +157,21 @@ def judged(board, r, before, part):
     return new
 
 
+# ---- why there is no earth return (02, R-4)
+def earth(net, asked):
+    """number, place, whether there is an earth return (1, else 0), and the part that a refusal shows (None: an answer's)"""
+    try:
+        boards = network(net)[2]
+        found = [r for r in range(1, len(boards)) if len(asked) == 12 and same(boards[r]['label'], asked)]
+        if not found:
+            raise Refused(14, 0, ('label', 0, len(asked)))
+    except Refused as r:
+        return dict(number=r.number, place=r.place, earthed=0, part=r.part)
+    # from the board towards the source, the first that does not go on
+    place = next(i for i in boards[found[0]]['chain'] if boards[i]['kind'] not in (2, 3))
+    return dict(number=0, place=place, earthed=int(boards[place]['kind'] in (0, 4)), part=None)
+
+
 # ---- an answer
 def solve(net, flt, room):
     """number, place, n, amps, part, and the numbers of the answer (None where refused)"""

@@ -1,5 +1,5 @@
 #!/usr/bin/env python3
-"""Writes crates/batch/stdin and stdout: a short stream of cases of both entry points, solve and write, and by the oracle the stream of their answers.
+"""Writes crates/batch/stdin and stdout: a short stream of cases of the three entry points, solve, write and earth, and by the oracle the stream of their answers.
 With a number, writes that many cases of solve to standard output instead, the same ones over and over: a stream to time `batch` with."""
 import os
 import struct
@@ -88,6 +88,30 @@ writing = [
 ]
 
 
+# where an earth return comes from: network and label
+BARE = record('GEN', '', 1, 0, J(20), J(20), NONE, NONE)
+ROOM = record('ROOM', 'BLOCK', 3, 0, (3, 1), (3, 1), (9, 3), NONE)
+gen, booth, hall = (oracle.label(name) for name in ('GEN', 'BOOTH-WEST-1', 'HALL'))
+tracing = [
+    (THREE, booth),
+    (THREE, hall),
+    (head(230, 1000, 3) + BARE + BOOTH + HALL, booth),
+    (head(230, 1000, 3) + BARE + BOOTH + HALL, hall),
+    (FOUR[:6] + b'\5\0' + FOUR[8:] + ROOM, oracle.label('room')),
+    # 14: unknown, eleven bytes, thirteen, none, the most
+    (THREE, oracle.label('NOWHERE')),
+    (THREE, gen[:11]),
+    (THREE, gen + b' '),
+    (THREE, b''),
+    (THREE, gen.ljust(64)),
+    # the network's own come first
+    (b'', gen),
+    (THREE[:-1], gen[:11]),
+    (head(230, 1000, 3) + GEN + BOOTH + BOOTH, gen),
+    (THREE.ljust(16400, b'\0'), gen),
+]
+
+
 def asked_to_solve(net, flt, room):
     return struct.pack('<4I', 1, room, len(net), len(flt)) + net + flt
 
@@ -121,13 +145,26 @@ def written(*case):
     return struct.pack('<7I', a['number'], a['place'], a['length'], 1, 0, 0, room) + out
 
 
+def asked_to_trace(net, label):
+    return struct.pack('<4I', 3, 0, len(net), len(label)) + net + label
+
+
+def traced(net, label):
+    a = oracle.earth(net, label)
+    whose, start, size = a['part'] or ('nobody', 0, 0)
+    code, lent = {'nobody': (0, b''), 'network': (1, net), 'label': (3, label)}[whose]
+    shown = lent[start:start + size]
+    assert len(shown) == size
+    return struct.pack('<6I', a['number'], a['place'], a['earthed'], code, start, size) + shown
+
+
 if len(sys.argv) > 1:
     for i in range(int(sys.argv[1])):
         sys.stdout.buffer.write(asked_to_solve(*solving[i % 13]))
     sys.exit()
 where = os.path.join(os.path.dirname(os.path.abspath(__file__)), '..', 'crates', 'batch')
-asked = [asked_to_solve(*c) for c in solving] + [asked_to_write(*c) for c in writing]
-answers = [solved(*c) for c in solving] + [written(*c) for c in writing]
+asked = [asked_to_solve(*c) for c in solving] + [asked_to_write(*c) for c in writing] + [asked_to_trace(*c) for c in tracing]
+answers = [solved(*c) for c in solving] + [written(*c) for c in writing] + [traced(*c) for c in tracing]
 # the last one is cut off in its fault
 with open(os.path.join(where, 'stdin'), 'wb') as f:
     f.write(b''.join(asked) + asked_to_solve(THREE, SOUND, FULL)[:-1])
@@ -135,4 +172,5 @@ with open(os.path.join(where, 'stdout'), 'wb') as f:
     f.write(b''.join(answers) + b'CUT\n')
 print(len(solving), 'cases of solve:', [oracle.solve(*c)['number'] for c in solving])
 print(len(writing), 'cases of write:', [to_write(*c)['number'] for c in writing])
+print(len(tracing), 'cases of earth:', [oracle.earth(*c)['number'] for c in tracing])
 print('and one that is cut off')

@@ -1,7 +1,8 @@
 //! Ranjupeli for Rust: short circuits of a radial network, answered exactly or refused by the first rule broken ([`solve`]);
-//! and the file of a network, written from its boards or refused by the same rules ([`write`]).
+//! the file of a network, written from its boards or refused by the same rules ([`write()`]);
+//! and the record that a board's earth return comes from, or the one that stops it ([`earth`]).
 //!
-//! Two safe functions over `libranjupeli.a`, whose code is proved. Links on x86-64 Linux alone. They allocate nothing, keep
+//! Three safe functions over `libranjupeli.a`, whose code is proved. Links on x86-64 Linux alone. They allocate nothing, keep
 //! nothing between calls and start no thread; they take less than 48 KB of stack, so give a thread that calls them 64 KB or more.
 
 /// The numbers that a buffer needs for `boards` boards.
@@ -21,8 +22,8 @@ pub const fn file(boards: usize) -> usize {
 pub const LONGEST: usize = file(256);
 
 /// What an answer's number says: 0, or the rule that was broken first, in the order in which they are tested.
-/// [`solve`] gives 0 to 17 and 19, [`write`] 0, 3, 6 to 11 and 20. No answer has 18 any more, and none will:
-/// it refused earth faults at boards without earth return, which are answered now.
+/// [`solve`] gives 0 to 17 and 19, [`write()`] 0, 3, 6 to 11 and 20, [`earth`] 0 to 11 and 14.
+/// No answer has 18 any more, and none will: it refused earth faults at boards without earth return, which are answered now.
 #[non_exhaustive]
 #[repr(u8)]
 #[derive(Clone, Copy, Debug, PartialEq, Eq, Hash)]
@@ -54,7 +55,7 @@ pub enum Outcome {
     FaultLength = 12,
     /// Fault mark.
     FaultMark = 13,
-    /// No board has the label, in any case.
+    /// No board has the label, in any case; one that is not of twelve bytes is no board's.
     UnknownBoard = 14,
     /// Fault kind over 3.
     FaultKind = 15,
@@ -100,7 +101,7 @@ impl Outcome {
     /// What it says, for a reader.
     pub const fn sentence(self) -> &'static str {
         match self {
-            Outcome::Accepted => "accepted: the fault is answered, or the file is written",
+            Outcome::Accepted => "accepted: the question is answered, or the file is written",
             Outcome::ShortNetwork => "the network has under 8 bytes",
             Outcome::HeadMark => "the head does not begin with HD",
             Outcome::HeadValues => "the volts, the unit or the number of boards is out of its range",
@@ -114,7 +115,7 @@ impl Outcome {
             Outcome::Sum => "a part of an impedance summed over a board's chain is over 4,095",
             Outcome::FaultLength => "the fault does not have 20 bytes",
             Outcome::FaultMark => "the fault does not begin with FT",
-            Outcome::UnknownBoard => "no board has the fault's label",
+            Outcome::UnknownBoard => "no board has the label",
             Outcome::FaultKind => "the fault's kind is over 3",
             Outcome::FaultPhase => "the fault's phase is over 2, or not 0 in a fault of all three phases",
             Outcome::FaultImpedance => "a part of the fault's impedance is over 1,365",
@@ -195,7 +196,7 @@ const _: () = assert!(std::mem::size_of::<Board>() == 42 && std::mem::align_of::
 const _: () = assert!(std::mem::offset_of!(Board, label) == 16 && std::mem::offset_of!(Board, feeder) == 28 && std::mem::offset_of!(Board, kind) == 40);
 
 /// A text as a label: 1 to 12 visible characters, spaces behind them. One of more than twelve bytes is not cut, for that could
-/// name another board: it becomes zeros, and so a label of wrong form (6) and no board's feeder (8).
+/// name another board: it becomes zeros, and so a label of wrong form (6), no board's feeder (8) and no board's label (14).
 pub const fn label(text: &str) -> [u8; 12] {
     let text = text.as_bytes();
     if text.len() > 12 {
@@ -220,6 +221,17 @@ pub struct Written {
     pub number: u8,
 }
 
+/// Whether a board has an earth return, and which record (from 1) to thank or to blame.
+#[derive(Clone, Copy, Debug, PartialEq, Eq)]
+pub enum EarthReturn<'a> {
+    /// Earth return from this record: the board's zero sequence starts there.
+    From(u16),
+    /// None, stopped at this record: the nearest from the board to the source that is a floating source or a blocking transformer.
+    Stopped(u16),
+    /// The rule that was broken first, the place that it names (0: none), and the bytes that it shows, of the network or of the label.
+    Refused { outcome: Outcome, place: u16, shown: &'a [u8] },
+}
+
 // As the archive lays it out.
 #[repr(C)]
 struct Reply {
@@ -232,10 +244,24 @@ struct Reply {
     owner: u8,
 }
 
+// As the archive lays it out.
+#[repr(C)]
+struct EarthReply {
+    start: usize,
+    len: usize,
+    place: u16,
+    number: u8,
+    owner: u8,
+    earthed: u8,
+}
+
+const _: () = assert!(std::mem::size_of::<EarthReply>() == 24 && std::mem::offset_of!(EarthReply, place) == 16 && std::mem::offset_of!(EarthReply, earthed) == 20);
+
 #[link(name = "ranjupeli", kind = "static")]
 extern "C" {
     fn ranjupeli_solve(network: *const u8, network_len: usize, fault: *const u8, fault_len: usize, buffer: *mut i64, buffer_len: usize) -> Reply;
     fn ranjupeli_write(volts: u16, unit: u16, boards: *const Board, boards_len: usize, out: *mut u8, out_len: usize) -> Written;
+    fn ranjupeli_earth(network: *const u8, network_len: usize, label: *const u8, label_len: usize) -> EarthReply;
 }
 
 /// Answers in the buffer, which needs `numbers(N)` places, or refuses and writes nothing. Any bytes and any buffer may be lent.
@@ -260,6 +286,20 @@ pub fn solve(network: &[u8], fault: &[u8], buffer: &mut [i64]) -> Answer {
 pub fn write(volts: u16, unit: u16, boards: &[Board], out: &mut [u8]) -> Written {
     // Safe: as above; a board has no bytes between its fields, and the output is lent to this call alone.
     unsafe { ranjupeli_write(volts, unit, boards.as_ptr(), boards.len(), out.as_mut_ptr(), out.len()) }
+}
+
+/// Whether the board with this label has an earth return, and which record to thank or to blame: for a crew whose loop tester shows nothing.
+/// The label is typed in any case and has twelve bytes, as [`label`] makes them of a text; one of more or fewer is refused.
+/// A network is refused as by [`solve`], and before the label. Panics where the archive is not this crate's and gives a number that has no outcome.
+pub fn earth<'a>(network: &'a [u8], label: &'a [u8]) -> EarthReturn<'a> {
+    // Safe: as above.
+    let r = unsafe { ranjupeli_earth(network.as_ptr(), network.len(), label.as_ptr(), label.len()) };
+    let outcome = Outcome::from_number(r.number).expect("the archive gives no number that has no outcome");
+    if outcome == Outcome::Accepted {
+        return if r.earthed == 1 { EarthReturn::From(r.place) } else { EarthReturn::Stopped(r.place) };
+    }
+    let lent = if r.owner == 0 { network } else { label };
+    EarthReturn::Refused { outcome, place: r.place, shown: &lent[r.start..r.start + r.len] }
 }
 
 impl Written {

@@ -15,7 +15,7 @@ use borrow.Rule.Slice.PartMut.{putMid}
 use borrow.Author.Tests.{eqb-true, eqb-false}
 use Rattle.lemmas.proofs.Over.{put-over, over-then, over-length}
 use Rattle.paper.specs.Bytes.{oneOf}
-use Rattle.paper.specs.Chain.{Boards, feederOf, chain, partHead, joined, unearthed, Z1, Z2, Z0, turnOf}
+use Rattle.paper.specs.Chain.{feederOf, chain, partHead, joined, unearthed, Z1, Z2, Z0, turnOf}
 use Rattle.paper.specs.Phase.{Asked, theD, theI, lift, current, phases, boardVoltages, recordCurrents}
 use Rattle.paper.specs.Answer.{flat, ofBoard, ofBoards}
 use Rattle.follows.proofs.Chain.{feeder-earlier}
@@ -25,8 +25,7 @@ use Rattle.fits.proofs.Sizes.{Ranged}
 use Rattle.fits.proofs.Fits.{shares-small, theD-small, theI-plane, lift-plane}
 use Rattle.node.specs.declared.Node.{Node}
 use Rattle.node.specs.Node.{startOf, nodeOf, noNode}
-use Rattle.node.specs.Tables.{table, nodesOf}
-use Rattle.node.proofs.Tables.{table-at, nodes-length, nodes-at}
+use Rattle.node.proofs.Tables.{in-table}
 use Rattle.node.proofs.Starts.{starts-nowhere}
 use Rattle.fault.specs.Short.{shortedOf}
 use Rattle.fault.proofs.Asked.{shorted-is, voltage-is}
@@ -40,13 +39,6 @@ use Rattle.board.specs.Faulted.{faultedFrom, FaultSmall}
 use Rattle.board.specs.Numbers.{leftOf, passedOf, numbersOf, ShareSmall}
 use Rattle.answer.specs.Ready.{Ready}
 use Rattle.answer.specs.Passing.{Passing}
-
--- ---- a board's node, off the table
-pub in-table : (boards : Boards) (i : ℕ) → i < length boards → getD (table noNode (nodesOf boards)) i noNode ≡ nodeOf boards (suc i)
-in-table boards i h =
-    let m = nodes-length boards 1 (length boards) in
-    let e : 1 + i ≡ suc i = omega arith in
-    table-at noNode (nodesOf boards) i noNode (omega arith) ∙ nodes-at noNode boards 1 (length boards) i h ∙ ap (nodeOf boards) e
 
 -- ---- a question that is ready
 module _ (q : Asked) (ready : Ready q) where

@@ -27,7 +27,7 @@ use Rattle.follows.proofs.Chain.{feeder-earlier}
 use Rattle.node.specs.declared.Node.{Node}
 use Rattle.node.specs.Node.{nodeOf, noNode}
 use Rattle.node.specs.Tables.{table, nodesOf}
-use Rattle.node.proofs.Tables.{nodes-length}
+use Rattle.node.proofs.Tables.{nodes-length, in-table}
 use Rattle.amps.specs.Positive.{Positive}
 use Rattle.amps.proofs.Asked.{theD-positive, amps-are}
 use Rattle.chain.specs.Marked.{FromEarlier, marksOf}
@@ -35,7 +35,7 @@ use Rattle.board.specs.declared.front.Faulted.{Faulted}
 use Rattle.board.specs.Faulted.{faultedFrom, topOf}
 use Rattle.answer.specs.Passing.{Passing}
 use Rattle.answer.specs.Posed.{Posed}
-use Rattle.answer.proofs.Boards.{in-table, here, faulted-is, fault-small}
+use Rattle.answer.proofs.Boards.{here, faulted-is, fault-small}
 
 -- ---- nodes in their table
 module _ (q : Asked) where

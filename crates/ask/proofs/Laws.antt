@@ -3,23 +3,20 @@ use mathlib.Core.List.{List}
 use mathlib.Core.Option.{Option, none, some}
 use mathlib.Core.Path.{_≡_, refl, sym, _∙_, ap}
 use Prim.Native.Nat.{ℕ}
-use native.Mathlib.Omega.{arith}
 use Rattle.paper.specs.declared.Refusal.{Refusal}
 use Rattle.paper.specs.File.{faultOf}
 use Rattle.paper.specs.Chain.{Boards, placeOf}
 use Rattle.paper.specs.Rows.{first}
 use Rattle.paper.specs.Refusal.{faultRows}
 use Rattle.paper.specs.declared.Outcome.the-variants.{Accepted, Refused}
+use Rattle.follows.proofs.Outcome.{never}
 use Rattle.ask.specs.Question.{acceptedQuestion, asking}
-use Rattle.ask.specs.Ask.{askOf}
-
-pub never : {A : Type 0} {r : Refusal} → Refused r ≡ Accepted → A
-never e = let z : _≡_ {A = ℕ} 0 1 = cc in absurd (omega arith)
+use Rattle.ask.proofs.Outcomes.{paperAsks}
 
 module _ (bs : Boards) (s : List ℕ) (room : ℕ) where
   -- accepted: no row tests true, and the fault and its place are those of the bytes
-  pub kept : askOf bs s room .outcome ≡ Accepted → (first (faultRows bs s room) ≡ none) × (askOf bs s room ≡ acceptedQuestion (faultOf s) (placeOf (faultOf s .label) bs))
-  unfolding askOf asking
+  pub kept : paperAsks bs s room .outcome ≡ Accepted → (first (faultRows bs s room) ≡ none) × (paperAsks bs s room ≡ acceptedQuestion (faultOf s) (placeOf (faultOf s .label) bs))
+  unfolding asking
   kept h = go (first (faultRows bs s room)) refl h
     where
       go : (o : Option Refusal) → first (faultRows bs s room) ≡ o → asking o (faultOf s) (placeOf (faultOf s .label) bs) .outcome ≡ Accepted →
@@ -28,8 +25,8 @@ module _ (bs : Boards) (s : List ℕ) (room : ℕ) where
       go (some r) e h = never h
 
   -- refused: the first row that tests true
-  pub broken : {r : Refusal} → askOf bs s room .outcome ≡ Refused r → first (faultRows bs s room) ≡ some r
-  unfolding askOf asking
+  pub broken : {r : Refusal} → paperAsks bs s room .outcome ≡ Refused r → first (faultRows bs s room) ≡ some r
+  unfolding asking
   broken {r} h = go (first (faultRows bs s room)) refl h
     where
       go : (o : Option Refusal) → first (faultRows bs s room) ≡ o → asking o (faultOf s) (placeOf (faultOf s .label) bs) .outcome ≡ Refused r → first (faultRows bs s room) ≡ some r

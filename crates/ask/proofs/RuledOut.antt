@@ -2,23 +2,20 @@
 use mathlib.Core.List.{List, [], _∷_, _++_}
 use Prim.Native.Nat.{ℕ}
 use lib.Dec.{lit≤}
-use lib.ListN.{replicate, take}
+use lib.ListN.{replicate}
 use base.Fml.{Lft}
 use Rattle.lemmas.proofs.RuledOut.{_↛_, RuledOut, ever, by-equation, list, lent}
-use Rattle.paper.specs.declared.Board.{Board}
 use Rattle.paper.specs.declared.Fault.{Fault}
 use Rattle.paper.specs.declared.Lent.{Lent}
 use Rattle.paper.specs.declared.Lent.the-variants.{NetworkBytes, FaultBytes}
 use Rattle.paper.specs.declared.Outcome.{Outcome}
 use Rattle.paper.specs.declared.Outcome.the-variants.{Accepted, Refused}
 use Rattle.paper.specs.Bytes.{part, Bytes·open}
-use Rattle.paper.specs.Label.{Label·open}
 use Rattle.paper.specs.Kind.{ohms, Kind·open}
 use Rattle.paper.specs.File.{faultOf}
-use Rattle.paper.specs.Chain.{Chain·open}
 use Rattle.paper.specs.Rows.{Rows·open}
 use Rattle.paper.specs.Refusal.{Refusal·open}
-use Rattle.node.specs.Tables.{table, emptyBoard}
+use Rattle.paper.proofs.Compare.{ordinal}
 use Rattle.ask.specs.declared.question.Question.{Question}
 use Rattle.ask.specs.Question.{refusedQuestion, acceptedQuestion, asking}
 use Rattle.ask.specs.Rules.{broken}
@@ -31,13 +28,9 @@ use Rattle.ask.proofs.question.at_board.Reads as at-board
 use Rattle.ask.proofs.ask.Reads as ask
 
 -- ---- answers told apart
-abbrev whose : Lent → ℕ
-whose NetworkBytes = 0
-whose FaultBytes = 1
-
 abbrev why : Outcome → List ℕ
 why Accepted = []
-why (Refused r) = r .number ∷ r .place ∷ whose (r .part .whose) ∷ r .part .start ∷ r .part .len ∷ []
+why (Refused r) = r .number ∷ r .place ∷ ordinal (r .part .whose) ∷ r .part .start ∷ r .part .len ∷ []
 
 abbrev told : Question → ℕ
 told q = list (q .k ∷ (why (q .outcome) ++ q .fault .label))
@@ -46,7 +39,7 @@ told q = list (q .k ∷ (why (q .outcome) ++ q .fault .label))
 abbrev refuse : Lent → ℕ → ℕ → ℕ → Question
 refuse w number place len = refusedQuestion (record { part = part w 0 len; place = place; number = number })
 
--- ---- faults at A by kind, phase and R; the bytes of a fault at A by kind, and of one at a; a table of one source, A, earthed and not
+-- ---- faults at A by kind, phase and R; the bytes of a fault at A by kind, and of one at a
 abbrev A : List ℕ
 A = 65 ∷ replicate 11 32
 
@@ -58,15 +51,6 @@ bytes k = 0x46 ∷ 0x54 ∷ A ++ (k ∷ replicate 5 0)
 
 abbrev small : List ℕ
 small = 0x46 ∷ 0x54 ∷ 97 ∷ replicate 11 32 ++ (1 ∷ replicate 5 0)
-
-abbrev source : ℕ → ℕ → List Board
-source kind x0 = table emptyBoard (record { z1 = ohms 0 1; z2 = ohms 0 1; z0 = ohms 0 x0; zn = ohms 0 0; label = A; feeder = replicate 12 32; kind = kind; clock = 0 } ∷ [])
-
-abbrev boards : List Board
-boards = source 0 1
-
-abbrev bare : List Board
-bare = source 1 0
 
 -- ---- the contracts
 pub broken-not : RuledOut (broken-by.Pre tt) (ever (broken-by.Post tt)) (
@@ -102,14 +86,15 @@ module _ (κ : Lft) where
   unread-not = by-equation (λ a. unreadBy (a .0 .now)) (λ n. n) (λ a z e s. s) (tt, (tt, tt)) tt
 
   pub ask-not : RuledOut (ask.Pre (κ, tt)) (ever (ask.Post (κ, tt))) (
-      (lent (bytes 1), (bare, (1, (37, tt)))) ↛ refuse FaultBytes 18 1 20  -- unearthed_set_refused
-      ∷ (lent (bytes 1), (boards, (1, (37, tt)))) ↛ acceptedQuestion (fault 1 0 0) 0  -- place_from_0
-      ∷ (lent (bytes 1), (boards, (1, (37, tt)))) ↛ refuse FaultBytes 14 0 20  -- board_1_not_found
-      ∷ (lent [], (boards, (1, (37, tt)))) ↛ refuse FaultBytes 12 0 20  -- short_fault_shown_as_20
-      ∷ (lent small, (boards, (1, (37, tt)))) ↛ refuse FaultBytes 14 0 20  -- fault_as_typed
-      ∷ (lent small, (boards, (1, (37, tt)))) ↛ acceptedQuestion (fault 1 0 0) 1  -- fault_in_capitals
+      (lent (bytes 1), (1, (1, (37, tt)))) ↛ refuse FaultBytes 18 1 20  -- unearthed_set_refused
+      ∷ (lent (bytes 1), (1, (1, (37, tt)))) ↛ acceptedQuestion (fault 1 0 0) 0  -- place_from_0
+      ∷ (lent (bytes 1), (1, (1, (37, tt)))) ↛ refuse FaultBytes 14 0 20  -- board_1_not_found
+      ∷ (lent (bytes 1), (0, (1, (37, tt)))) ↛ acceptedQuestion (fault 1 0 0) 0  -- no_board_taken
+      ∷ (lent [], (1, (1, (37, tt)))) ↛ refuse FaultBytes 12 0 20  -- short_fault_shown_as_20
+      ∷ (lent [], (0, (1, (37, tt)))) ↛ refuse FaultBytes 14 0 20  -- fourteen_before_twelve
+      ∷ (lent small, (1, (1, (37, tt)))) ↛ acceptedQuestion (fault 1 0 0) 1  -- fault_in_capitals
       ∷ [])
-  unfolding askOf asking faultOf table Rows·open Refusal·open Chain·open Kind·open Label·open Bytes·open
+  unfolding askOf unreadBy askedAt asking faultOf Rows·open Refusal·open Kind·open Bytes·open
   ask-not =
-      by-equation (λ a. askOf (take (a .1 .1 .0) (a .1 .0)) (a .0 .now) (a .1 .1 .1 .0)) told (λ a z e s. s)
-      (lit≤ tt, (lit≤ tt, (lit≤ tt, (lit≤ tt, (lit≤ tt, (lit≤ tt, tt)))))) tt
+      by-equation (λ a. askOf (a .0 .now) (a .1 .0) (a .1 .1 .0) (a .1 .1 .1 .0)) told (λ a z e s. s)
+      (lit≤ tt, (lit≤ tt, (lit≤ tt, (lit≤ tt, (lit≤ tt, (lit≤ tt, (lit≤ tt, tt))))))) tt

@@ -1,16 +1,19 @@
 // Answers many cases from one stream: standard input to standard output, every number little-endian.
 //
-// A case is four numbers of four bytes: which entry point it asks (1 solve, 2 write), the room that it lends, the bytes of its first part, the bytes of its second part; then the two parts.
+// A case is four numbers of four bytes: which entry point it asks (1 solve, 2 write, 3 earth), the room that it lends, the bytes of its first part, the bytes of its second part; then the two parts.
 //     entry   room                     first part                                                             second part
 //     1       elements of the buffer   the network                                                            the fault
 //     2       bytes of the output      the boards, 44 bytes each as a board's record, the mark not looked at  volts and unit, two bytes each
-// What a case may say at most stands in solving.rt and writing.rt, and what its buffer or its output holds before it in stream/specs/Case.antt.
+//     3       none: 0                  the network                                                            the label
+// What a case may say at most stands in solving.rt, writing.rt and earthing.rt, and what its buffer or its output holds before it in stream/specs/Case.antt.
 //
 // An answer to 1: number, place, N (four bytes each), amps (eight), whose bytes are shown (1 network, 2 fault), where they start, how many they are (four each), these bytes themselves,
 // how many elements the buffer has (four), and all of these elements (eight each).
 // An answer to 2: number, place, the file's length (four bytes each), whose bytes are shown, where they start, how many they are (four each), how many bytes the output has (four), and all of these bytes.
+// An answer to 3: number, place, whether there is an earth return (1, else 0), whose bytes are shown (3 the label's; 0 of none), where they start, how many they are (four bytes each), and these bytes themselves.
 //
 // At the end of the input END and a line's end; where a case is cut off, asks another entry point, or says a length that it may not have, CUT and a line's end; after BUDGET cases BUDG.
+mod earthing;
 mod solving;
 mod writing;
 
@@ -32,6 +35,8 @@ const SOLVE: usize = 1;
 
 const WRITE: usize = 2;
 
+const EARTH: usize = 3;
+
 // Why a run ends.
 enum End {
     Input,
@@ -47,7 +52,7 @@ fn four() -> [u8; 16]
     [0; 16]
 }
 
-// The longest network and the longest fault. Boards to be written, and volts and unit, are shorter.
+// The longest network, and the longest fault or label. Boards to be written, and volts and unit, are shorter.
 fn parts() -> [u8; 16464]
     ensures { λ r. ⌜ 16464 ≡ length r ⌝ }
 {
@@ -66,7 +71,7 @@ fn output() -> [u8; 16400]
     [0; 16400]
 }
 
-// An answer of `solve` with the longest network shown and the largest buffer, 36 + 16400 + 8 * 6400; one of `write` is shorter.
+// An answer of `solve` with the longest network shown and the largest buffer, 36 + 16400 + 8 * 6400; the others' are shorter.
 fn page() -> [u8; 67636]
     ensures { λ r. ⌜ 67636 ≡ length r ⌝ }
 {
@@ -109,6 +114,7 @@ fn answer(
     match entry {
         SOLVE => solving::case(asked, parts, buffer, out),
         WRITE => writing::case(asked, parts, file, out),
+        EARTH => earthing::case(asked, parts, out),
         _ => 0,
     }
 }

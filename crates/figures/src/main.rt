@@ -73,6 +73,7 @@ fn print(answer: Answer, all: &[i64]) {
     match whose {
         Lent::NetworkBytes => say(b" network"),
         Lent::FaultBytes => say(b" fault"),
+        Lent::LabelBytes => say(b" label"),
     }
     number(part.start as u64);
     number(part.len as u64);

@@ -1,10 +1,11 @@
 -- What each contract of this crate rules out: a call that it allows, and an answer that it does not. Assumes nothing.
-use mathlib.Core.Bool.{false, not}
+use mathlib.Core.Bool.{false, not, cond}
 use mathlib.Core.List.{List, [], _∷_, _++_}
 use mathlib.Core.Path.{refl}
 use Prim.Native.Nat.{ℕ, _+_, _*_}
 use native.Mathlib.Omega.{arith}
-use lib.ListN.{replicate, getD}
+use lib.Dec.{eqb}
+use lib.ListN.{length, replicate, getD}
 use base.Fml.{Lft}
 use Rattle.lemmas.specs.Table.{tab}
 use Rattle.lemmas.proofs.RuledOut.{_↛_, RuledOut, ever, by-equation, bool, list, lent}
@@ -12,7 +13,8 @@ use Rattle.paper.specs.declared.Ohms.{Ohms}
 use Rattle.paper.specs.declared.Head.{Head}
 use Rattle.paper.specs.declared.Board.{Board}
 use Rattle.paper.specs.declared.Fault.{Fault}
-use Rattle.paper.specs.Bytes.{u8At, u16At, within, Bytes·open}
+use Rattle.paper.specs.Bytes.{u8At, u16At, bytesAt, within, Bytes·open}
+use Rattle.paper.specs.Label.{spaces, Label·open}
 use Rattle.paper.specs.Kind.{ohms}
 use Rattle.paper.specs.File.{ohmsAt, headOf, boardOf, faultOf, boardsOf, File·open}
 use Rattle.paper.specs.Refusal.{headRanges}
@@ -23,6 +25,7 @@ use Rattle.file.proofs.field.u16_at.Reads as u16-at
 use Rattle.file.proofs.field.in_range.Reads as in-range
 use Rattle.file.proofs.field.ohms_at.Reads as ohms-at
 use Rattle.file.proofs.field.label_at.Reads as label-at
+use Rattle.file.proofs.field.label_in.Reads as label-in
 use Rattle.file.proofs.bytes.head_of.Reads as head-of
 use Rattle.file.proofs.bytes.board_of.Reads as board-of
 use Rattle.file.proofs.bytes.fault_of.Reads as fault-of
@@ -94,6 +97,16 @@ pub empty-board-not : RuledOut (empty-board.Pre tt) (ever (empty-board.Post tt))
 empty-board-not = by-equation (λ a. emptyBoard) of-board (λ a z e s. s) (tt, (tt, tt)) tt
 
 module _ (κ : Lft) where
+  pub label-in-not : RuledOut (label-in.Pre (κ, tt)) (ever (label-in.Post (κ, tt))) (
+      (lent (bytes 0 19), (20, (2, tt))) ↛ bytes 2 12  -- label_of_a_cut_fault
+      ∷ (lent (bytes 0 20), (20, (2, tt))) ↛ replicate 12 32  -- spaces_for_a_label
+      ∷ (lent (bytes 0 20), (20, (2, tt))) ↛ bytes 0 12  -- label_from_the_front
+      ∷ [])
+  unfolding Bytes·open Label·open
+  label-in-not =
+      by-equation (λ a. let s = a .0 .now in cond (eqb (length s) (a .1 .0)) (bytesAt 12 s (a .1 .1 .0)) spaces) list (λ a z e s. s)
+      (omega arith, (omega arith, (omega arith, tt))) tt
+
   pub u16-at-not : RuledOut (u16-at.Pre (κ, tt)) (ever (u16-at.Post (κ, tt))) (
       (lent (1 ∷ 2 ∷ []), (0, tt)) ↛ 258  -- big_endian
       ∷ (lent (1 ∷ 2 ∷ []), (0, tt)) ↛ 257  -- u16_low_byte_twice

@@ -1,11 +1,14 @@
 // What stands at a place of a record's bytes, little-endian: a number, an impedance, a label.
 ghost use mathlib.Core.List.{_∷_};
 ghost use mathlib.Core.Path.{_≡_};
+ghost use mathlib.Core.Bool.{cond};
 ghost use Prim.Native.Nat.{_+_, _*_, _<_};
+ghost use lib.Dec.{eqb};
 ghost use lib.ListN.{length};
 ghost use Rattle.lemmas.specs.Table.{tab};
-ghost use Rattle.paper.specs.Bytes.{u8At, u16At, within};
-ghost use Rattle.paper.specs.File.{ohmsAt};
+ghost use Rattle.paper.specs.Bytes.{u8At, u16At, bytesAt, within};
+ghost use Rattle.paper.specs.Label.{spaces};
+ghost use Rattle.paper.specs.File.{labelSize, ohmsAt};
 use paper::Ohms;
 
 // The byte that closes a label.
@@ -66,4 +69,15 @@ pub(crate) fn label_at(s: &[u8], i: usize) -> [u8; 12]
         s[i + 10],
         s[i + 11],
     ]
+}
+
+// The label at a place of bytes that have the size they must have; of others twelve spaces, which are no label.
+pub fn label_in(s: &[u8], size: usize, i: usize) -> [u8; 12]
+    requires { ⌜ i + 11 < size ⌝ }
+    ensures { λ r. ⌜ r ≡ cond (eqb (length (now (s .entry))) size) (bytesAt labelSize (now (s .entry)) i) spaces ⌝ }
+{
+    if s.len() != size {
+        return [SPACE; 12];
+    }
+    label_at(s, i)
 }

@@ -19,7 +19,7 @@ pub data Linked (bs : Boards) (j : ℕ) : ℕ → Type 0 where
   down : (q : ℕ) → oneOf (board bs (suc q) .kind) (2 ∷ 3 ∷ []) ≡ true → 1 ≤ feederOf bs (suc q) → Linked bs j (feederOf bs (suc q)) → Linked bs j (suc q)
 
 module _ (bs : Boards) where
-  goes-on-tied : (r : ℕ) → GoesOn (zeroOf bs r) → tie bs r ≡ feederOf bs r
+  pub goes-on-tied : (r : ℕ) → GoesOn (zeroOf bs r) → tie bs r ≡ feederOf bs r
   unfolding tied
   goes-on-tied r h = go (zeroOf bs r) refl h
     where
@@ -28,7 +28,7 @@ module _ (bs : Boards) where
       go (goes-on t) e h = tie-by bs r e
       go none e h = absurd h
 
-  tied-goes-on : (r : ℕ) → 1 ≤ tie bs r → GoesOn (zeroOf bs r)
+  pub tied-goes-on : (r : ℕ) → 1 ≤ tie bs r → GoesOn (zeroOf bs r)
   unfolding tied
   tied-goes-on r l = go (zeroOf bs r) refl
     where

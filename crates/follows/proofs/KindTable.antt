@@ -1,9 +1,9 @@
--- The kind table by its rows: six, and the empty one of every number that is no kind; and which of them go on. Assumes nothing.
+-- The kind table by its rows: six, and the empty one of every number that is no kind; which of them go on, and the kinds of each word. Assumes nothing.
 use mathlib.Core.Bool.{Bool, true, false, false≢true}
-use mathlib.Core.List.{[], _∷_}
+use mathlib.Core.List.{List, [], _∷_}
 use mathlib.Core.Logic.{_⊎_, inl, inr}
 use mathlib.Core.Path.{_≡_, refl, sym, subst}
-use Prim.Native.Nat.{ℕ, zero, suc, _≤_}
+use Prim.Native.Nat.{ℕ, zero, suc, _≤_, _<_}
 use native.Mathlib.Omega.{arith}
 use lib.Dec.{ltb}
 use lib.ListN.{List·getD-eq-default}
@@ -52,3 +52,13 @@ unfolding kindOf kinds
 no-source zero h e = subst GoesOn (sym e) tt
 no-source (suc zero) h e = subst GoesOn (sym e) tt
 no-source (suc (suc k)) h e = omega arith
+
+-- ---- the kinds of each word of the table
+abbrev pub kindsOf : Zero → List ℕ
+kindsOf (starts t) = 0 ∷ 4 ∷ []
+kindsOf (goes-on t) = 2 ∷ 3 ∷ []
+kindsOf none = 1 ∷ 5 ∷ []
+
+pub kind-by-word : (k : ℕ) → k < 6 → {z : Zero} → kindOf k .zero-seq ≡ z → oneOf k (kindsOf z) ≡ true
+unfolding oneOf kindOf kinds
+kind-by-word k h e = subst (λ z. oneOf k (kindsOf z) ≡ true) e (each-at (λ k. oneOf k (kindsOf (kindOf k .zero-seq)) ≡ true) 6 k h (refl, (refl, (refl, (refl, (refl, (refl, tt)))))))

@@ -3,6 +3,8 @@
 pub mod Impedance
 pub mod Lists
 pub mod Paths
+-- bytes one behind the other
+pub mod Spelt
 -- the place of a label
 pub mod Places
 -- the chain and the part, record by record
@@ -17,6 +19,7 @@ pub mod Joined
 pub mod KindTable
 -- what the tests of the refusal table give
 pub mod Rows
+pub mod Outcome
 pub mod Numbered
 pub mod Fit
 pub mod Sound
@@ -31,6 +34,9 @@ pub mod Divisor
 pub mod Laid
 -- all that acceptance gives of a question
 pub mod Given
+-- 02, R-4: a board's chain up to the head of its part, and what the head is; boards that differ off a chain
+pub mod UpToHead
+pub mod OffChain
 -- 02, R-3: small letters and capitals; boards with their labels in capitals; bytes typed in another case
 pub mod Case
 pub mod Upper

@@ -105,3 +105,12 @@ module _ {up : ℕ → ℕ} {path : ℕ → List ℕ} (g : Tree up path) where
 
   pub common-apart : (j k : ℕ) → (lastOf (path j) ≡ lastOf (path k) → ⊥) → common (path j) (path k) ≡ []
   common-apart j k h = common-nothing (path j) (path k) (λ i a b. h (same-last i j a ∙ sym (same-last i k b)))
+
+-- ---- two trees: the list of a place is the same in both where each place on it has the same one above
+pub same-path : {up up′ : ℕ → ℕ} {path path′ : ℕ → List ℕ} → Tree up path → Tree up′ path′ → (k : ℕ) → ((r : ℕ) → On r (path k) → up′ r ≡ up r) → path′ k ≡ path k
+same-path {up} {up′} {path} {path′} g g′ = climbing g (λ k. ((r : ℕ) → On r (path k) → up′ r ≡ up r) → path′ k ≡ path k) (λ h. g′ .ends ∙ sym (g .ends)) go
+  where
+    go : (q : ℕ) → (((r : ℕ) → On r (path (up (suc q))) → up′ r ≡ up r) → path′ (up (suc q)) ≡ path (up (suc q))) → ((r : ℕ) → On r (path (suc q)) → up′ r ≡ up r) → path′ (suc q) ≡ path (suc q)
+    go q ih h =
+        g′ .goes q ∙ ap (λ u. suc q ∷ path′ u) (h (suc q) (on-own g (suc q) (omega arith))) ∙ ap (λ l. suc q ∷ l) (ih (λ r o. h r (on-behind g q r o)))
+        ∙ sym (g .goes q)

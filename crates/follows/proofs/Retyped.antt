@@ -1,5 +1,5 @@
 -- 02, R-3: a network and a fault typed in another case. Whatever the bytes, damaged ones too, the answer or the refusal and the buffer stay; so does what writing boards returns; bytes shown back differ in their case alone. Assumes nothing.
-use mathlib.Core.Bool.{Bool, true, false, not, cond, _&&_}
+use mathlib.Core.Bool.{Bool, true, false, not, cond, _&&_, _||_}
 use mathlib.Core.List.{List, [], _∷_, map}
 use mathlib.Core.Option.{Option}
 use mathlib.Core.Path.{_≡_, refl, sym, _∙_, ap}
@@ -14,9 +14,9 @@ use borrow.Author.Tests.{ltb-true, ltb-false, le-leb}
 use Rattle.paper.specs.declared.Ohms.{Ohms}
 use Rattle.paper.specs.declared.Board.{Board}
 use Rattle.paper.specs.declared.Refusal.{Refusal}
-use Rattle.paper.specs.declared.Lent.the-variants.{NetworkBytes, FaultBytes}
+use Rattle.paper.specs.declared.Lent.the-variants.{NetworkBytes, FaultBytes, LabelBytes}
 use Rattle.paper.specs.Bytes.{u8At, bytesAt, cut, within, part}
-use Rattle.paper.specs.Label.{capital, capitals}
+use Rattle.paper.specs.Label.{Label, capital, capitals}
 use Rattle.paper.specs.Kind.{ohms, partOver}
 use Rattle.paper.specs.File.{markOf, HD, BD, FT, headOf, headSize, boardOf, boardSize, labelSize, faultOf, faultSize, fileSize, records, recordsOf, decoded, boardsOf}
 use Rattle.paper.specs.Chain.{Boards, placeOf}
@@ -25,9 +25,10 @@ use Rattle.paper.specs.Refusal.{theHead, theRecord, theFault, headRanges, headR
 use Rattle.paper.specs.Phase.{Asked, asked}
 use Rattle.paper.specs.Answer.{after, written, answer, verdict}
 use Rattle.paper.specs.Write.{writeVerdict}
+use Rattle.paper.specs.Return.{labelRows, earthRefusal, earthAt, refusedOr, earthSaid}
 use Rattle.paper.proofs.Typed.{ft, Typed·open}
 use Rattle.follows.proofs.Case.{capital-once}
-use Rattle.follows.proofs.Upper.{upper, uppers, Alike, by-capitals, look-upper, count, tests-upper, order-upper, write-upper, upperFault, upperAsked, answer-upper, after-upper}
+use Rattle.follows.proofs.Upper.{upper, uppers, Alike, by-capitals, look-upper, count, earth-upper, tests-upper, order-upper, write-upper, upperFault, upperAsked, answer-upper, after-upper}
 
 -- ---- bytes typed in another case: where labels stand a byte may differ by its case, elsewhere none may
 pub record Retyped (typed : ℕ → Bool) (s t : List ℕ) : Type 0 where
@@ -183,6 +184,23 @@ module _ {net net′ : List ℕ} (typed : Retyped inNetwork net net′) where
       let later = by-capitals (map seen) (inOrder (λ r. r .1) judged []) records-seen (recordsOf net) (recordsOf net′) seen-alike in
       λ j. first (head-rows-alike j) then later j
 
+  -- ---- and a label (02, R-4)
+  module _ (l l′ : Label) (same : capitals l ≡ capitals l′) where
+    label-place : placeOf l (boardsOf net) ≡ placeOf l′ (boardsOf net′)
+    label-place = look-upper 1 l (boardsOf net) ∙ (λ j. placeOf (same j) (boards-alike j)) ∙ sym (look-upper 1 l′ (boardsOf net′))
+
+    label-rows-alike : labelRows (boardsOf net) l ≡ labelRows (boardsOf net′) l′
+    unfolding labelRows
+    label-rows-alike =
+        let size = sym (length-map l capital) ∙ ap length same ∙ length-map l′ capital in
+        λ j. row 14 (not (eqb (size j) labelSize) || eqb (label-place j) 0) 0 (part LabelBytes 0 (size j)) ∷ []
+
+    pub said-alike : earthSaid net l ≡ earthSaid net′ l′
+    unfolding earthSaid earthRefusal
+    said-alike =
+        let at = by-capitals uppers (λ us. earthAt us (placeOf l (boardsOf net))) (λ bs. earth-upper bs (placeOf l (boardsOf net))) (boardsOf net) (boardsOf net′) boards-alike in
+        λ j. refusedOr (network-alike j then first (label-rows-alike j)) ((at ∙ ap (earthAt (boardsOf net′)) label-place) j)
+
   -- ---- and a fault
   module _ {flt flt′ : List ℕ} (retyped : Retyped inFault flt flt′) where
     abbrev asking : ReadAlike inFault flt flt′
@@ -239,6 +257,10 @@ case-written n f buffer = told-alike n f (λ r q. after r q buffer) (λ r q. aft
 
 pub case-write : (bs bs′ : Boards) → Alike bs bs′ → (volts unit room : ℕ) → writeVerdict volts unit bs room ≡ writeVerdict volts unit bs′ room
 case-write bs bs′ a volts unit room = by-capitals uppers (λ us. writeVerdict volts unit us room) (write-upper volts unit room) bs bs′ a
+
+-- 02, R-4: and of what is said about an earth return, of a label typed in another case too
+pub case-earth : {net net′ : List ℕ} (l l′ : Label) → Retyped inNetwork net net′ → capitals l ≡ capitals l′ → earthSaid net l ≡ earthSaid net′ l′
+case-earth l l′ n same = said-alike n l l′ same
 
 -- and of any part that is shown back, as typed, the same in capitals
 pub case-shown : {typed : ℕ → Bool} {s t : List ℕ} → Retyped typed s t → (start len : ℕ) → capitals (cut s start len) ≡ capitals (cut t start len)

@@ -23,6 +23,7 @@ use Rattle.paper.specs.Fault.{numOf, seq, shortOf, D, currents, liftOf}
 use Rattle.paper.specs.Phase.{Asked, onlyIf, voltageOf, theShort, theD, theI, lift, voltage, current, phases, faultCurrents, boardVoltages, recordCurrents}
 use Rattle.paper.specs.Amps.{said, saidSquare, ampsOver, ampsUnder, amps}
 use Rattle.paper.specs.Answer.{flat, ofBoard, ofBoards, numbers, after, accepted, answer}
+use Rattle.paper.specs.Return.{returnOf, earthAt}
 use Rattle.paper.specs.Write.{tooShort, writeRefusal, writeAnswer, writeVerdict}
 use Rattle.follows.proofs.Case.{formed-capitals, spaces-capitals, same-upper}
 
@@ -113,6 +114,11 @@ module _ (bs : Boards) where
       go : (r : ℕ) → earthOf bs r ≡ earthOf us r
       go zero = refl
       go (suc q) = λ i. earthBy (zeros i (heads i (suc q)))
+
+  -- (02, R-4)
+  pub earth-upper : (k : ℕ) → earthAt bs k ≡ earthAt us k
+  unfolding earthAt
+  earth-upper k = λ i. returnOf (earths i k) (heads i k)
 
   zero-chains : zeroChain bs ≡ zeroChain us
   unfolding zeroChain

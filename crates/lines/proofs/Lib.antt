@@ -1,4 +1,5 @@
 mod BoardLines
+pub mod EarthLine
 mod Lines
 pub mod Unspaced
 mod RuledOut

@@ -11,17 +11,22 @@ use denote.Ref.{RefT}
 use Rattle.lemmas.proofs.RuledOut.{_↛_, RuledOut, ever, by-equation, lent}
 use Rattle.decimal.specs.Decimal.{Decimal·open}
 use Rattle.decimal.proofs.Told.{bytes, dots, leaves, room, by-text, by-room}
-use Rattle.paper.specs.Bytes.{Bytes·open}
+use Rattle.paper.specs.declared.EarthReturn.the-variants.{From, Stopped, Refused}
+use Rattle.paper.specs.declared.Lent.the-variants.{LabelBytes}
+use Rattle.paper.specs.Bytes.{part, Bytes·open}
 use Rattle.paper.specs.Label.{Label·open}
 use Rattle.paper.specs.File.{boardsOf, File·open}
+use Rattle.paper.specs.Return.{said}
 use Rattle.lines.specs.Name.{unspaced}
 use Rattle.lines.specs.Lines.{faultLine, refusedText, threeLines, fours, Lines·open}
 use Rattle.lines.specs.Boards.{boardsLying, Boards·open}
+use Rattle.lines.specs.Earth.{earthText, Earth·open}
 use Rattle.lines.proofs.name.letters.Reads as letters
 use Rattle.lines.proofs.name.put_label.Reads as put-label
 use Rattle.lines.proofs.put_refusal.Reads as put-refusal
 use Rattle.lines.proofs.put_fault.Reads as put-fault
 use Rattle.lines.proofs.put_phases.Reads as put-phases
+use Rattle.lines.proofs.earthed.put_earth.Reads as put-earth
 use Rattle.lines.proofs.boards.put_boards.Reads as put-boards
 
 -- ---- a label, and a board's record by it; networks of one board and of two
@@ -78,6 +83,16 @@ module _ (κ : Lft) where
       ∷ [])
   unfolding Lines·open Label·open Decimal·open Bytes·open
   put-fault-not = by-room (λ b. faultLine (b .0) (b .1 .0) (b .1 .1 .0) (b .1 .1 .1 .0)) tt tt
+
+  pub put-earth-not : RuledOut (put-earth.Pre (κ, tt)) (leaves (put-earth.Post (κ, tt))) (
+      (dots 27, (0, (From 3, tt))) ↛ (26, bytes "none, stopped at record 3\n.")  -- from_is_stopped
+      ∷ (dots 27, (0, (Stopped 3, tt))) ↛ (27, bytes "earth return from record 3\n")  -- stopped_is_from
+      ∷ (dots 27, (0, (From 3, tt))) ↛ (27, bytes "earth return from record 4\n")  -- record_behind
+      ∷ (dots 26, (0, (Stopped 3, tt))) ↛ (25, bytes "none, stopped at record 3.")  -- line_not_ended
+      ∷ (dots 26, (0, (Refused (record { part = part LabelBytes 0 11; place = 0; number = 14 }), tt))) ↛ (26, bytes "none, stopped at record 0\n")  -- refused_is_stopped
+      ∷ [])
+  unfolding said Earth·open Lines·open Decimal·open Bytes·open
+  put-earth-not = by-room (λ b. earthText (said (b .0))) tt tt
 
 module _ (κ κ₁ κ₂ κ₃ : Lft) where
   pub put-phases-not : RuledOut (put-phases.Pre (κ, (κ₁, (κ₂, (κ₃, tt))))) (leaves (put-phases.Post (κ, (κ₁, (κ₂, (κ₃, tt)))))) (

@@ -1,3 +1,4 @@
 pub mod Boards
+pub mod Earth
 pub mod Lines
 pub mod Name

@@ -1,2 +1,4 @@
 pub mod Head
 pub mod Whole
+pub mod Kept
+mod RuledOut

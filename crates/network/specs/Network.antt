@@ -1,14 +1,16 @@
--- What reading a network gives. Assumes nothing.
+-- What reading a network for a board gives. Assumes nothing.
 use mathlib.Core.Bool.{cond}
 use mathlib.Core.List.{List, [], _∷_}
 use mathlib.Core.Option.{Option, none, some}
 use Prim.Native.Nat.{ℕ}
 use Rattle.paper.specs.declared.Refusal.{Refusal}
 use Rattle.paper.specs.Rows.{Row, row}
+use Rattle.paper.specs.Label.{Label}
 use Rattle.paper.specs.File.{headOf, boardsOf}
+use Rattle.paper.specs.Chain.{placeOf}
 use Rattle.paper.specs.Refusal.{headRows, networkRefusal}
 use Rattle.node.specs.Node.{noNode}
-use Rattle.node.specs.Tables.{emptyBoard, table, nodesOf}
+use Rattle.node.specs.Tables.{table, nodesOf}
 use Rattle.paper.specs.declared.Outcome.the-variants.{Accepted, Refused}
 use Rattle.network.specs.declared.Network.{Network}
 
@@ -23,14 +25,15 @@ headNumber net = rowNumber (headRows net)
 
 -- ---- accepted, or refused by the first broken rule
 abbrev pub refusedNetwork : Refusal → Network
-refusedNetwork r = record { outcome = Refused r; head = record { volts = 0; unit = 0; boards = 0 }; boards = table emptyBoard []; nodes = table noNode [] }
+refusedNetwork r = record { outcome = Refused r; head = record { volts = 0; unit = 0; boards = 0 }; nodes = table noNode []; k = 0 }
 
-abbrev pub acceptedNetwork : List ℕ → Network
-acceptedNetwork net = record { outcome = Accepted; head = headOf net; boards = table emptyBoard (boardsOf net); nodes = table noNode (nodesOf (boardsOf net)) }
+-- the board that is asked for is the first with the label
+abbrev pub acceptedNetwork : List ℕ → Label → Network
+acceptedNetwork net l = record { outcome = Accepted; head = headOf net; nodes = table noNode (nodesOf (boardsOf net)); k = placeOf l (boardsOf net) }
 
-unfoldable pub judged : Option Refusal → List ℕ → Network
-judged none net = acceptedNetwork net
-judged (some r) net = refusedNetwork r
+unfoldable pub judged : Option Refusal → List ℕ → Label → Network
+judged none net l = acceptedNetwork net l
+judged (some r) net l = refusedNetwork r
 
-unfoldable pub networkOf : List ℕ → Network
-networkOf net = judged (networkRefusal net) net
+unfoldable pub networkOf : List ℕ → Label → Network
+networkOf net l = judged (networkRefusal net) net l

@@ -1,4 +1,4 @@
-// A network, read: accepted with what each board gets from its chain, or refused by the first rule that its bytes break.
+// A network, read: accepted with what each board gets from its chain and where the board stands that is asked for, or refused by the first rule that its bytes break.
 ghost use mathlib.Core.Path.{_≡_};
 ghost use Rattle.paper.specs.Bytes.{part};
 ghost use Rattle.paper.specs.declared.Lent.the-variants.{NetworkBytes};
@@ -8,10 +8,9 @@ use file::field::HD;
 use file::field::u16_at;
 use file::head::head_wrong;
 use file::table::decode;
-use file::table::empty_board;
 use label::places::lookup_all;
+use label::search::lookup;
 use node::Node;
-use paper::Board;
 use paper::Head;
 use paper::Lent;
 use paper::Outcome;
@@ -20,20 +19,18 @@ use paper::Refusal;
 use records::judge;
 use records::sums::no_node;
 
-// The head and the tables are those of the network where it is accepted, and empty where it is refused.
+// The head, the nodes and the place of the board that is asked for (0: none) are those of the network where it is accepted, and empty where it is refused. The boards themselves stay in `read`.
 pub struct Network {
     pub outcome: Outcome,
     pub head: Head,
-    pub boards: [Board; 256],
     pub nodes: [Node; 256],
+    pub k: u16,
 }
 
 fn refused(number: u8, place: u16, start: usize, len: usize) -> Network
     ensures { λ r. ⌜ r ≡ refusedNetwork (record { part = part NetworkBytes start len; place = place; number = number }) ⌝ }
 {
-    let empty = empty_board();
     let none = no_node();
-    let boards = [empty; 256];
     let nodes = [none; 256];
     let part = Part {
         whose: Lent::NetworkBytes,
@@ -53,8 +50,8 @@ fn refused(number: u8, place: u16, start: usize, len: usize) -> Network
     Network {
         outcome: Outcome::Refused(why),
         head,
-        boards,
         nodes,
+        k: 0,
     }
 }
 
@@ -79,8 +76,9 @@ fn head_number(net: &[u8]) -> u8
     0
 }
 
-pub fn read(net: &[u8]) -> Network
-    ensures { λ r. ⌜ r ≡ networkOf (now (net .entry)) ⌝ }
+// The network, and the first of its boards that has the label.
+pub fn read(net: &[u8], label: [u8; 12]) -> Network
+    ensures { λ r. ⌜ r ≡ networkOf (now (net .entry)) label ⌝ }
 {
     let broken = head_number(net);
     if broken == 1 {
@@ -100,10 +98,11 @@ pub fn read(net: &[u8]) -> Network
         return refused(number, place, 8 + 44 * (place as usize - 1), 44);
     }
     let nodes = judged.nodes;
+    let k = lookup(boards, n, label);
     Network {
         outcome: Outcome::Accepted,
         head,
-        boards,
         nodes,
+        k: k as u16,
     }
 }

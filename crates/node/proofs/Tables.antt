@@ -7,8 +7,8 @@ use lib.ListN.{length, getD, set, replicate, length-append, length-replicate, Li
 use lib.Seq.{set-at}
 use Rattle.paper.specs.Chain.{Boards}
 use Rattle.node.specs.declared.Node.{Node}
-use Rattle.node.specs.Node.{nodeOf}
-use Rattle.node.specs.Tables.{table, nodesFrom}
+use Rattle.node.specs.Node.{nodeOf, noNode}
+use Rattle.node.specs.Tables.{table, nodesFrom, nodesOf}
 
 module _ {A : Type 0} (empty : A) where
   pub table-length : (xs : List A) → length xs ≤ 256 → length (table empty xs) ≡ 256
@@ -57,3 +57,10 @@ pub nodes-next : (bs : Boards) (r n : ℕ) → nodesFrom bs r (suc n) ≡ nodesF
 unfolding nodesFrom
 nodes-next bs r zero = let e : r ≡ r + 0 = omega arith in ap (λ (m : ℕ). nodeOf bs m ∷ []) e
 nodes-next bs r (suc n) = let e : suc r + n ≡ r + suc n = omega arith in ap (λ (l : List Node). nodeOf bs r ∷ l) (nodes-next bs (suc r) n ∙ ap (λ (m : ℕ). nodesFrom bs (suc r) n ++ (nodeOf bs m ∷ [])) e)
+
+-- ---- a board's node, off the table
+pub in-table : (boards : Boards) (i : ℕ) → i < length boards → getD (table noNode (nodesOf boards)) i noNode ≡ nodeOf boards (suc i)
+in-table boards i h =
+    let m = nodes-length boards 1 (length boards) in
+    let e : 1 + i ≡ suc i = omega arith in
+    table-at noNode (nodesOf boards) i noNode (omega arith) ∙ nodes-at noNode boards 1 (length boards) i h ∙ ap (nodeOf boards) e

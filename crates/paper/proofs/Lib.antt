@@ -6,5 +6,6 @@ pub mod Figures
 pub mod UnearthedFigures
 pub mod CaseFigures
 pub mod WriteFigures
+pub mod ReturnFigures
 -- what tables of wrong answers say of impedances and sequences
 pub mod Told

@@ -17,5 +17,7 @@ pub mod Refusal
 pub mod Answer
 -- 02, R-1: 'Write the network file'
 pub mod Write
+-- 02, R-4: 'Why is there no earth return?'
+pub mod Return
 -- what contracts ask of impedances and of numbers
 pub mod Bounds

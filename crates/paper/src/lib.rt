@@ -43,10 +43,11 @@ pub struct Seq {
     pub s0: Num,
 }
 
-// The bytes that a call is lent.
+// The bytes that a call is lent: the network's, and those that say what is asked of it.
 pub enum Lent {
     NetworkBytes,
     FaultBytes,
+    LabelBytes,
 }
 
 // A part of them.
@@ -84,4 +85,11 @@ pub struct Written {
     pub len: usize,
     pub place: u16,
     pub number: u8,
+}
+
+// Why a board has an earth return, or has none: the record that its zero sequence starts from, the record that stops it, or the first rule that network and label break.
+pub enum EarthReturn {
+    From(u16),
+    Stopped(u16),
+    Refused(Refusal),
 }

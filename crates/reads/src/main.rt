@@ -15,7 +15,8 @@ fn number(n: u64) {
 }
 
 fn show(net: &[u8]) {
-    let read = network::read(net);
+    let nobody = [b' '; 12];
+    let read = network::read(net, nobody);
     let outcome = read.outcome;
     let head = read.head;
     match outcome {

@@ -3,15 +3,8 @@ use mathlib.Core.List.{[], _∷_}
 use mathlib.Core.Path.{sym}
 use lib.ListN.{length, replicate}
 use Rattle.lemmas.proofs.RuledOut.{_↛_, RuledOut, ever, by}
-use Rattle.short.specs.Limits.{fileMost, faultMost}
-use Rattle.short.proofs.file_space.Reads as file-space
+use Rattle.short.specs.Limits.{faultMost}
 use Rattle.short.proofs.fault_space.Reads as fault-space
-
-pub file-space-not : RuledOut (file-space.Pre tt) (ever (file-space.Post tt)) (
-    tt ↛ replicate 52 0  -- file_of_52
-    ∷ tt ↛ replicate 11272 0  -- file_of_256_boards
-    ∷ [])
-file-space-not = by length (λ a. fileMost) (λ a z s. sym (s .1)) (tt, (tt, tt)) tt
 
 pub fault-space-not : RuledOut (fault-space.Pre tt) (ever (fault-space.Post tt)) (
     tt ↛ replicate 20 0  -- fault_of_20

@@ -1,9 +1,6 @@
--- 01, 'Figures worked through': what the program reads. Assumes nothing.
+-- 01, 'Figures worked through': what the program reads of the fault. Assumes nothing.
 use Prim.Native.Nat.{ℕ}
 
--- "The program reads at most 16,384 bytes of the file and 21 of the fault"
-abbrev pub fileMost : ℕ
-fileMost = 16384
-
+-- "The program reads at most .. 21 of the fault"
 abbrev pub faultMost : ℕ
 faultMost = 21

@@ -2,6 +2,5 @@
 -- what holds of every accepted question besides: numbers that fit, the amps
 pub mod Given
 pub mod Promised
-pub mod Asking
 pub mod Ready
 pub mod Outcomes

@@ -1,73 +1,68 @@
 -- Each outcome of a call, from the facts in the shape in which the branches have them: what the reader gave, what asking gave. Assumes nothing.
+use mathlib.Core.Bool.{Bool, cond}
 use mathlib.Core.List.{List}
 use mathlib.Core.Option.{Option, none, some}
-use mathlib.Core.Path.{_≡_, refl, sym, _∙_, ap}
+use mathlib.Core.Path.{_≡_, sym, _∙_, ap}
 use Prim.Native.Nat.{ℕ, _≤_}
 use native.Mathlib.Omega.{arith}
 use lib.IntN.{ℤ}
-use lib.ListN.{length, take}
+use lib.Dec.{eqb}
+use lib.ListN.{length}
+use borrow.Author.Tests.{eq-eqb}
 use Rattle.lemmas.specs.Over.{over}
 use Rattle.paper.specs.declared.Answer.{Answer}
 use Rattle.paper.specs.declared.Refusal.{Refusal}
+use Rattle.paper.specs.Bytes.{bytesAt}
+use Rattle.paper.specs.Label.{Label, spaces}
 use Rattle.paper.specs.File.{faultOf, boardsOf}
-use Rattle.paper.specs.Chain.{Boards, placeOf}
+use Rattle.paper.specs.Chain.{placeOf}
 use Rattle.paper.specs.Rows.{first, _then_}
 use Rattle.paper.specs.Refusal.{theRecord, networkRefusal, faultRows, answerSize, refusal}
 use Rattle.paper.specs.Phase.{asked}
 use Rattle.paper.specs.Amps.{amps}
 use Rattle.paper.specs.Answer.{numbers, accepted, refused}
-use Rattle.follows.proofs.Accepted.{boards-length}
 use Rattle.follows.proofs.Given.{question}
 use Rattle.network.specs.declared.Network.{Network}
 use Rattle.paper.specs.declared.Outcome.the-variants.{Accepted, Refused}
-use Rattle.network.specs.Network.{acceptedNetwork, judged, networkOf}
-use Rattle.network.proofs.Whole.{first-boards}
+use Rattle.network.specs.Network.{acceptedNetwork, networkOf}
+use Rattle.network.proofs.Kept.{network-kept, network-broken, network-boards}
 use Rattle.ask.specs.declared.question.Question.{Question}
 use Rattle.ask.specs.Question.{acceptedQuestion}
 use Rattle.ask.specs.Ask.{askOf}
-use Rattle.ask.proofs.Laws.{never, kept, broken}
+use Rattle.ask.proofs.Outcomes.{paperAsks, is-paper}
+use Rattle.ask.proofs.Laws.{kept, broken}
 use Rattle.answer.specs.Posed.{Posed}
 use Rattle.solve.proofs.Ready.{accepted-ready}
 use Rattle.solve.proofs.Promised.{Allowed, refused-verdict, refused-written, accepted-verdict, accepted-written}
 
--- ---- what the reader's outcome says
-module _ (net : List ℕ) where
-  network-kept : networkOf net .outcome ≡ Accepted → (networkRefusal net ≡ none) × (networkOf net ≡ acceptedNetwork net)
-  unfolding networkOf judged
-  network-kept h = go (networkRefusal net) refl h
-    where
-      go : (o : Option Refusal) → networkRefusal net ≡ o → judged o net .outcome ≡ Accepted → (networkRefusal net ≡ none) × (judged o net ≡ acceptedNetwork net)
-      go none e h = (e, refl)
-      go (some r) e h = never h
-
-  network-broken : {why : Refusal} → networkOf net .outcome ≡ Refused why → networkRefusal net ≡ some why
-  unfolding networkOf judged
-  network-broken {why} h = go (networkRefusal net) refl h
-    where
-      go : (o : Option Refusal) → networkRefusal net ≡ o → judged o net .outcome ≡ Refused why → networkRefusal net ≡ some why
-      go none e h = never (sym h)
-      go (some q) e h = let same : q ≡ why = cc in e ∙ ap some same
-
 -- ---- 1 to 11: g was read
-pub refused-network : (net flt : List ℕ) (room : ℕ) {g : Network} {why : Refusal} → g ≡ networkOf net → g .outcome ≡ Refused why → refusal net flt room ≡ some why
+pub refused-network : (net flt : List ℕ) (room : ℕ) (l : Label) {g : Network} {why : Refusal} → g ≡ networkOf net l → g .outcome ≡ Refused why → refusal net flt room ≡ some why
 unfolding refusal _then_
-refused-network net flt room read h =
-    let e = network-broken net (ap (λ (x : Network). x .outcome) (sym read) ∙ h) in
-    ap (λ (o : Option Refusal). o then first (faultRows (boardsOf net) flt room)) e
+refused-network net flt room l read h = ap (λ (o : Option Refusal). o then first (faultRows (boardsOf net) flt room)) (network-broken net l read h)
 
 -- ---- g was read and accepted, and a was asked of it
 pub record Asking (net flt : List ℕ) (room : ℕ) (g : Network) (a : Question) : Type 0 where
-  pub read : g ≡ networkOf net
+  pub label : Label
+  pub label-is : label ≡ cond (eqb (length flt) 20) (bytesAt 12 flt 2) spaces
+  pub read : g ≡ networkOf net label
   pub taken : g .outcome ≡ Accepted
-  pub told : a ≡ askOf (take (g .head .boards) (g .boards)) flt room
+  pub told : a ≡ askOf flt (g .k) (g .head .boards) room
 
 module _ {net flt : List ℕ} {room : ℕ} {g : Network} {a : Question} (b : Asking net flt room g a) where
-  as-read : (networkRefusal net ≡ none) × (g ≡ acceptedNetwork net)
-  as-read = let k = network-kept net (ap (λ (x : Network). x .outcome) (sym (b .read)) ∙ b .taken) in (k .0, b .read ∙ k .1)
+  as-read : (networkRefusal net ≡ none) × (g ≡ acceptedNetwork net (b .label))
+  as-read = network-kept net (b .label) (b .read) (b .taken)
 
-  -- the boards that are asked are the network's
-  as-told : a ≡ askOf (boardsOf net) flt room
-  as-told = b .told ∙ ap (λ (bs : Boards). askOf bs flt room) (first-boards net (ap (λ (x : Network). x .head .boards) (as-read .1)) (ap (λ (x : Network). x .boards) (as-read .1)))
+  -- the place is that of the fault's label, where the fault has 20 bytes
+  as-placed : length flt ≡ 20 → g .k ≡ placeOf (faultOf flt .label) (boardsOf net)
+  unfolding faultOf
+  as-placed e = ap (λ (x : Network). x .k) (as-read .1) ∙ ap (λ (l : Label). placeOf l (boardsOf net)) (b .label-is ∙ ap (λ (t : Bool). cond t (bytesAt 12 flt 2) spaces) (eq-eqb (length flt) 20 e))
+
+  pub as-counted : g .head .boards ≡ length (boardsOf net)
+  as-counted = network-boards net (b .label) (b .read) (b .taken)
+
+  -- so what is asked of it is what the paper asks
+  as-told : a ≡ paperAsks (boardsOf net) flt room
+  as-told = b .told ∙ ap (λ (n : ℕ). askOf flt (g .k) n room) as-counted ∙ is-paper (boardsOf net) flt room (g .k) as-placed
 
   by-fault : refusal net flt room ≡ first (faultRows (boardsOf net) flt room)
   unfolding refusal _then_
@@ -79,7 +74,7 @@ module _ {net flt : List ℕ} {room : ℕ} {g : Network} {a : Question} (b : Ask
 
   -- none is broken, and the call holds the question
   module _ (heard : a .outcome ≡ Accepted) where
-    as-kept : (first (faultRows (boardsOf net) flt room) ≡ none) × (askOf (boardsOf net) flt room ≡ acceptedQuestion (faultOf flt) (placeOf (faultOf flt .label) (boardsOf net)))
+    as-kept : (first (faultRows (boardsOf net) flt room) ≡ none) × (paperAsks (boardsOf net) flt room ≡ acceptedQuestion (faultOf flt) (placeOf (faultOf flt .label) (boardsOf net)))
     as-kept = kept (boardsOf net) flt room (ap (λ (x : Question). x .outcome) (sym as-told) ∙ heard)
 
     pub none-broken : refusal net flt room ≡ none
@@ -95,9 +90,6 @@ module _ {net flt : List ℕ} {room : ℕ} {g : Network} {a : Question} (b : Ask
           same-fault = ap (λ (x : Question). x .fault) (as-told ∙ as-kept .1);
           same-place = ap (λ (x : Question). x .k) (as-told ∙ as-kept .1);
         }
-
-    pub as-counted : g .head .boards ≡ length (boardsOf net)
-    as-counted = ap (λ (x : Network). x .head .boards) (as-read .1) ∙ sym (boards-length net)
 
     pub room-there : answerSize (g .head .boards) ≤ room
     room-there = omega (arith, as-counted, question net flt room none-broken .room-enough)

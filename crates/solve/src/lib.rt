@@ -4,27 +4,33 @@ ghost use lib.ListN.{length};
 ghost use Rattle.paper.specs.Answer.{verdict, written};
 use answer::answer;
 use ask::ask;
+use file::field::label_in;
 use network::read;
 use paper::Answer;
 use paper::Outcome;
 use verdict::accepted;
 use verdict::refused;
 
-// Nothing is written until both are accepted: the first look at the buffer is for its length.
+// The bytes of a fault, and where its label stands in it.
+const FAULT: usize = 20;
+
+const LABEL: usize = 2;
+
+// The label is looked for while the network is read, so that no table of boards is handed on. Nothing is written until both are accepted: the first look at the buffer is for its length.
 pub fn solve(net: &[u8], flt: &[u8], buffer: &mut [i64]) -> Answer
     ensures { λ r. ⌜ r ≡ verdict (now (net .entry)) (now (flt .entry)) (length (now (buffer .entry))) ⌝ }
     ensures { λ _. ⌜ now (buffer .exit) ≡ written (now (net .entry)) (now (flt .entry)) (now (buffer .entry)) ⌝ }
 {
-    let network = read(net);
+    let label = label_in(flt, FAULT, LABEL);
+    let network = read(net, label);
     let outcome = network.outcome;
     if let Outcome::Refused(why) = outcome {
         return refused(why);
     }
     let head = network.head;
-    let boards = network.boards;
     let nodes = network.nodes;
     let n = head.boards;
-    let question = ask(flt, boards, n as usize, buffer.len());
+    let question = ask(flt, network.k, n as usize, buffer.len());
     let heard = question.outcome;
     if let Outcome::Refused(why) = heard {
         return refused(why);

@@ -14,9 +14,10 @@ use Rattle.decimal.proofs.Stored.{little-length}
 use Rattle.lemmas.proofs.Little.{same-number}
 use Rattle.decimal.proofs.Back.{word-fits, same-word}
 use Rattle.paper.specs.declared.Lent.{Lent}
-use Rattle.paper.specs.declared.Lent.the-variants.{NetworkBytes, FaultBytes}
+use Rattle.paper.specs.declared.Lent.the-variants.{NetworkBytes, FaultBytes, LabelBytes}
 use Rattle.paper.specs.declared.Answer.{Answer}
 use Rattle.paper.specs.declared.Written.{Written}
+use Rattle.paper.proofs.Compare.{ordinal, same-ordinal}
 use Rattle.stream.specs.Layout.{threeOf, whoseOf, partOf, foundOf, headOf, elementsOf, bytesOf, writtenOf}
 use Rattle.stream.proofs.Pieces.{elements-length}
 
@@ -53,17 +54,20 @@ module _ (a : Answer) (shown shown′ : List ℕ) (ys zs : List ℤ) where
       (front shown shown′ _ _ k rest, same-elements ys zs f g (behind (little 4 (length ys)) (little 4 (length zs)) _ _ n (behind shown shown′ _ _ k rest)))
 
 -- ---- of `write`
-same-whose : (a b : Lent) → whoseOf a ≡ whoseOf b → a ≡ b
+whose-is : (a : Lent) → whoseOf a ≡ ordinal a
 unfolding whoseOf
-same-whose NetworkBytes NetworkBytes e = refl
-same-whose NetworkBytes FaultBytes e = absurd (omega (arith, e))
-same-whose FaultBytes NetworkBytes e = absurd (omega (arith, e))
-same-whose FaultBytes FaultBytes e = refl
+whose-is NetworkBytes = refl
+whose-is FaultBytes = refl
+whose-is LabelBytes = refl
+
+same-whose : (a b : Lent) → whoseOf a ≡ whoseOf b → a ≡ b
+same-whose a b e = same-ordinal a b (sym (whose-is a) ∙ e ∙ whose-is b)
 
 whose-word : (a : Lent) → whoseOf a < 256 ^ 4
 unfolding whoseOf
 whose-word NetworkBytes = omega arith
 whose-word FaultBytes = omega arith
+whose-word LabelBytes = omega arith
 
 -- its numbers are of four bytes
 pub record Words (w : Written) : Type 0 where

@@ -1,6 +1,8 @@
 -- The layout piece by piece, as the code lays it down. Assumes nothing.
 use mathlib.Core.Path.{_≡_, refl, sym, ap, _∙_}
+use mathlib.Core.Bool.{cond}
 use mathlib.Core.List.{List, [], _∷_, _++_}
+use mathlib.Core.Option.{Option, none, some}
 use Prim.Native.Nat.{ℕ, suc, _+_, _*_, _≤_, _<_}
 use native.Mathlib.Numerals.{add-one}
 use native.Mathlib.Omega.{arith}
@@ -14,10 +16,15 @@ use Rattle.lemmas.proofs.Words.{kept}
 use Rattle.paper.specs.declared.Part.{Part}
 use Rattle.paper.specs.declared.Answer.{Answer}
 use Rattle.paper.specs.declared.Written.{Written}
+use Rattle.paper.specs.declared.Refusal.{Refusal}
+use Rattle.paper.specs.declared.EarthReturn.{EarthReturn}
+use Rattle.paper.specs.declared.EarthReturn.the-variants.{From, Stopped, Refused}
+use Rattle.paper.specs.Return.{Said, refusedBy, said}
 use Rattle.lemmas.specs.Little.{little}
 use Rattle.decimal.specs.Word.{wordOf}
 use Rattle.decimal.proofs.Stored.{little-length}
 use Rattle.stream.specs.Layout.{threeOf, whoseOf, partOf, foundOf, headOf, elementsOf, bytesOf, writtenOf}
+use Rattle.stream.specs.Said.{shownOf, saidOf, namedOf}
 
 -- ---- what answers share
 pub three-pieces : (a b c : ℕ) → threeOf a b c ≡ little 4 a ++ (little 4 b ++ little 4 c)
@@ -45,6 +52,24 @@ answer-pieces a shown zs = refl
 pub written-pieces : (w : Written) (out : List ℕ) → writtenOf w out ≡ threeOf (w .number) (w .place) (w .len) ++ (partOf (w .part) ++ (little 4 (length out) ++ out))
 unfolding writtenOf
 written-pieces w out = refl
+
+-- ---- an answer's of `earth`, by its cases
+pub refused-pieces : (w : Refusal) (shown : List ℕ) → saidOf (refusedBy w) shown ≡ threeOf (w .number) (w .place) 0 ++ (partOf (w .part) ++ shown)
+unfolding saidOf shownOf
+refused-pieces w shown = refl
+
+module _ (e : EarthReturn) (shown : List ℕ) where
+  pub of-from : {r : ℕ} → e ≡ From r → saidOf (said e) shown ≡ namedOf r 1 shown
+  unfolding saidOf shownOf said
+  of-from h = ap (λ (x : EarthReturn). saidOf (said x) shown) h
+
+  pub of-stopped : {r : ℕ} → e ≡ Stopped r → saidOf (said e) shown ≡ namedOf r 0 shown
+  unfolding saidOf shownOf said
+  of-stopped h = ap (λ (x : EarthReturn). saidOf (said x) shown) h
+
+  pub of-refused : {w : Refusal} → e ≡ Refused w → saidOf (said e) shown ≡ saidOf (refusedBy w) shown
+  unfolding said
+  of-refused h = ap (λ (x : EarthReturn). saidOf (said x) shown) h
 
 -- ---- the elements, from the first that is left on
 module _ (zs : List ℤ) where
@@ -77,3 +102,11 @@ bytes-length a shown zs = length-append (headOf a shown (length zs)) (elementsOf
 pub written-length : (w : Written) (out : List ℕ) → length (writtenOf w out) ≡ 28 + length out
 unfolding writtenOf partOf threeOf little
 written-length w out = omega arith
+
+pub said-length : (s : Said) (shown : List ℕ) → length (saidOf s shown) ≡ 24 + length shown
+unfolding saidOf shownOf partOf threeOf little
+said-length s shown = go (s .shown)
+  where
+    go : (o : Option Part) → length (threeOf (s .number) (s .place) (cond (s .earthed) 1 0) ++ (shownOf o ++ shown)) ≡ 24 + length shown
+    go none = omega arith
+    go (some p) = omega arith

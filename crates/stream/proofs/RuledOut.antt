@@ -12,18 +12,23 @@ use Rattle.lemmas.specs.Table.{tab}
 use Rattle.lemmas.specs.Little.{little}
 use Rattle.decimal.specs.Word.{wordOf}
 use Rattle.decimal.proofs.Told.{dots, leaves, by-room}
-use Rattle.paper.specs.declared.Lent.the-variants.{FaultBytes}
+use Rattle.paper.specs.declared.Lent.the-variants.{FaultBytes, LabelBytes}
 use Rattle.paper.specs.declared.Board.{Board}
 use Rattle.paper.specs.declared.Answer.{Answer}
 use Rattle.paper.specs.declared.Written.{Written}
+use Rattle.paper.specs.declared.EarthReturn.{EarthReturn}
+use Rattle.paper.specs.declared.EarthReturn.the-variants.{From, Stopped, Refused}
+use Rattle.paper.specs.Return.{said}
 use Rattle.paper.specs.Bytes.{part, Bytes·open}
 use Rattle.paper.specs.File.{boardOf, records, decoded, File·open}
 use Rattle.node.specs.Tables.{emptyBoard}
 use Rattle.stream.specs.declared.case.Case.{Case}
 use Rattle.stream.specs.Case.{caseOf, marks, byteMarks}
 use Rattle.stream.specs.Layout.{threeOf, whoseOf, partOf, foundOf, headOf, elementsOf, bytesOf, writtenOf}
+use Rattle.stream.specs.Said.{shownOf, saidOf}
 use Rattle.stream.proofs.solved.put_answer.Reads as put-answer
 use Rattle.stream.proofs.written.put_written.Reads as put-written
+use Rattle.stream.proofs.said.put_said.Reads as put-said
 use Rattle.stream.proofs.case.case_of.Reads as case-of
 use Rattle.stream.proofs.case.boards_of.Reads as boards-of
 use Rattle.stream.proofs.case.mark.Reads as mark
@@ -53,6 +58,10 @@ written = record { part = part FaultBytes 5 4; len = 1; place = 2; number = 9 }
 
 abbrev output : RefT (List ℕ)
 output = lent (7 ∷ 8 ∷ [])
+
+-- 14 for a label of four bytes
+abbrev unknown : EarthReturn
+unknown = Refused (record { part = part LabelBytes 0 4; place = 0; number = 14 })
 
 -- two boards, and tables told apart by what their first two say of kind and clock
 abbrev bytes : ℕ → ℕ → List ℕ
@@ -110,6 +119,17 @@ module _ (κ κ' : Lft) where
       ∷ [])
   unfolding writtenOf partOf whoseOf threeOf little
   put-written-not = by-room (λ b. writtenOf (b .0) (b .1 .0 .now)) tt tt
+
+  pub put-said-not : RuledOut (put-said.Pre (κ, (κ', tt))) (leaves (put-said.Post (κ, (κ', tt)))) (
+      (dots 24, (0, (From 3, (lent [], tt)))) ↛ (24, fours (0 ∷ 3 ∷ 0 ∷ 0 ∷ 0 ∷ 0 ∷ []))  -- from_is_stopped
+      ∷ (dots 24, (0, (Stopped 3, (lent [], tt)))) ↛ (24, fours (0 ∷ 3 ∷ 1 ∷ 0 ∷ 0 ∷ 0 ∷ []))  -- stopped_is_from
+      ∷ (dots 24, (0, (Stopped 3, (lent [], tt)))) ↛ (24, fours (0 ∷ 3 ∷ 0 ∷ 1 ∷ 0 ∷ 0 ∷ []))  -- nothing_of_the_network
+      ∷ (dots 28, (0, (unknown, (shown, tt)))) ↛ (28, fours (14 ∷ 0 ∷ 0 ∷ 2 ∷ 0 ∷ 4 ∷ 9 ∷ []))  -- label_shown_as_a_fault
+      ∷ (dots 28, (0, (unknown, (shown, tt)))) ↛ (28, fours (14 ∷ 0 ∷ 1 ∷ 3 ∷ 0 ∷ 4 ∷ 9 ∷ []))  -- refused_with_a_return
+      ∷ (dots 28, (0, (unknown, (shown, tt)))) ↛ (24, fours (14 ∷ 0 ∷ 0 ∷ 3 ∷ 0 ∷ 4 ∷ []) ++ replicate 4 46)  -- label_left_out
+      ∷ [])
+  unfolding said saidOf shownOf partOf whoseOf threeOf little
+  put-said-not = by-room (λ b. saidOf (said (b .0)) (b .1 .0 .now)) tt tt
 
 module _ (κ κ' κ'' : Lft) where
   pub put-answer-not : RuledOut (put-answer.Pre (κ, (κ', (κ'', tt)))) (leaves (put-answer.Post (κ, (κ', (κ'', tt))))) (

@@ -4,7 +4,7 @@ use Prim.Native.Nat.{ℕ}
 use lib.IntN.{ℤ}
 use lib.ListN.{length}
 use Rattle.paper.specs.declared.Lent.{Lent}
-use Rattle.paper.specs.declared.Lent.the-variants.{NetworkBytes, FaultBytes}
+use Rattle.paper.specs.declared.Lent.the-variants.{NetworkBytes, FaultBytes, LabelBytes}
 use Rattle.paper.specs.declared.Part.{Part}
 use Rattle.paper.specs.declared.Answer.{Answer}
 use Rattle.paper.specs.declared.Written.{Written}
@@ -19,6 +19,7 @@ threeOf a b c = little 4 a ++ (little 4 b ++ little 4 c)
 unfoldable pub whoseOf : Lent → ℕ
 whoseOf NetworkBytes = 1
 whoseOf FaultBytes = 2
+whoseOf LabelBytes = 3
 
 unfoldable pub partOf : Part → List ℕ
 partOf p = threeOf (whoseOf (p .whose)) (p .start) (p .len)

@@ -1,4 +1,4 @@
-// What answers of both kinds share: three numbers in a row, and the part that is shown.
+// What answers of all kinds share: three numbers in a row, and the part that is shown.
 // Each `put_..` of this crate writes from a place on and returns the place behind.
 ghost use mathlib.Core.Path.{_≡_};
 ghost use Rattle.decimal.specs.Wrote.{Room, Wrote};
@@ -22,6 +22,7 @@ fn whose(lent: Lent) -> u64
     match lent {
         Lent::NetworkBytes => 1,
         Lent::FaultBytes => 2,
+        Lent::LabelBytes => 3,
     }
 }
 

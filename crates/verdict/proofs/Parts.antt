@@ -6,7 +6,7 @@ use native.Mathlib.Omega.{arith}
 use lib.ListN.{length, take, drop, length-take, length-drop}
 use denote.Ref.{RefT}
 use Rattle.paper.specs.declared.Lent.{Lent}
-use Rattle.paper.specs.declared.Lent.the-variants.{NetworkBytes, FaultBytes}
+use Rattle.paper.specs.declared.Lent.the-variants.{NetworkBytes, FaultBytes, LabelBytes}
 use Rattle.paper.specs.declared.Part.{Part}
 use Rattle.paper.specs.Bytes.{cut}
 use Rattle.verdict.specs.Shown.{lent, shownBytes, Within, IsPart}
@@ -27,6 +27,7 @@ lent-room p net flt n f fits = go (p .whose) fits
     go : (w : Lent) → p .start + p .len ≤ length (lent w net flt) → p .start + p .len < 2 ^ 64
     go NetworkBytes h = omega arith
     go FaultBytes h = omega arith
+    go LabelBytes h = omega arith
 
 module _ (p : Part) (net flt : RefT (List ℕ)) (w : Lent) (h : p .whose ≡ w) where
   pub lent-end : Within p (net .now) (flt .now) → p .start + p .len ≤ length (lent w (net .now) (flt .now))
@@ -39,6 +40,7 @@ module _ (p : Part) (net flt : RefT (List ℕ)) (w : Lent) (h : p .whose ≡ w) 
 pub lent-bytes : (w : Lent) (net flt : RefT (List ℕ)) {a n : ℕ} {r : RefT (List ℕ)} → IsPart (lent w net flt) a n r → r .now ≡ cut (lent w (net .now) (flt .now)) a n
 lent-bytes NetworkBytes net flt h = h .bytes
 lent-bytes FaultBytes net flt h = h .bytes
+lent-bytes LabelBytes net flt h = h .bytes
 
 module _ (p : Part) (net flt : List ℕ) where
   -- as many as the part says
@@ -52,6 +54,7 @@ module _ (p : Part) (net flt : List ℕ) where
       go : (w : Lent) → length (cut (lent w net flt) (p .start) (p .len)) ≤ m
       go NetworkBytes = simp (length-take, length-drop) (omega arith)
       go FaultBytes = simp (length-take, length-drop) (omega arith)
+      go LabelBytes = simp (length-take, length-drop) (omega arith)
 
 -- two results that the contract allows are the same bytes at the same place
 pub same-part : {s : RefT (List ℕ)} {a n : ℕ} {q r : RefT (List ℕ)} → IsPart s a n q → IsPart s a n r → (q .now ≡ r .now) × (q .ptr ≡ r .ptr)

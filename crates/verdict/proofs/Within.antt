@@ -1,4 +1,4 @@
--- The part of every answer lies within the bytes that it names, so `shown` can be called on every answer. Assumes nothing.
+-- The part of every answer lies within the bytes that it names, so `shown` can be called on every answer, those about an earth return too. Assumes nothing.
 use mathlib.Core.Bool.{true, false}
 use mathlib.Core.List.{List, [], _∷_, _++_}
 use mathlib.Core.Option.{Option, none, some}
@@ -11,14 +11,16 @@ use Rattle.lemmas.proofs.Bools.{same-by}
 use Rattle.paper.specs.declared.Part.{Part}
 use Rattle.paper.specs.declared.Refusal.{Refusal}
 use Rattle.paper.specs.File.{headOf, boardOf, faultOf, recordsOf, boardsOf}
-use Rattle.paper.specs.Chain.{Boards, placeOf}
+use Rattle.paper.specs.Chain.{Boards, placeOf, partHead, Earth, no-earth, earth-at, earthOf}
 use Rattle.paper.specs.Rows.{Test, test, Row, row, rowsAt, first, _then_}
 use Rattle.paper.specs.Refusal.{theRecord, headRows, recordRefusal, inOrder, recordsRefusal, networkRefusal, faultRows, refusal}
 use Rattle.paper.specs.Phase.{asked}
 use Rattle.paper.specs.Answer.{accepted, refused, answer, verdict}
+use Rattle.paper.specs.Return.{labelRows, earthRefusal, returnOf, earthAt, refusedOr, earthSaid}
 use Rattle.follows.proofs.Rows.{clear}
 use Rattle.follows.proofs.Accepted.{accepted-network, accepted-fault}
 use Rattle.node.proofs.Records.{recs-length}
+use Rattle.verdict.specs.Said.{partSaid}
 use Rattle.verdict.specs.Shown.{Within}
 
 -- ---- what a refusal shows, of rows tried in their order
@@ -88,10 +90,13 @@ module _ (net flt : List ℕ) where
             ((λ _. l), λ _. ((λ _. l), λ _. ((λ _. l), λ _. ((λ _. l), λ _. ((λ _. l), λ _. ((λ _. omega arith), λ _. tt)))))),
       )
 
+  network-in : Shows In (networkRefusal net)
+  unfolding networkRefusal
+  network-in = shows-then In (first (headRows net)) (recordsRefusal [] (recordsOf net)) head-in records-in
+
   refusal-in : (room : ℕ) → Shows In (refusal net flt room)
-  unfolding refusal networkRefusal
-  refusal-in room =
-      shows-then In (networkRefusal net) (first (faultRows (boardsOf net) flt room)) (shows-then In (first (headRows net)) (recordsRefusal [] (recordsOf net)) head-in records-in) (λ _. fault-in room)
+  unfolding refusal
+  refusal-in room = shows-then In (networkRefusal net) (first (faultRows (boardsOf net) flt room)) network-in (λ _. fault-in room)
 
   accepted-in : (room : ℕ) → refusal net flt room ≡ none → In (accepted (asked net flt) .part)
   unfolding accepted asked
@@ -108,3 +113,17 @@ within net flt room = go (refusal net flt room) refl (refusal-in net flt room)
     go : (o : Option Refusal) → refusal net flt room ≡ o → Shows (In net flt) o → Within (answer o (asked net flt) .part) net flt
     go none e h = accepted-in net flt room e
     go (some r) e h = h
+
+-- the same of what is said about an earth return
+pub within-said : (net l : List ℕ) → Within (partSaid (earthSaid net l .shown)) net l
+unfolding earthSaid refusedOr earthRefusal earthAt returnOf labelRows
+within-said net l =
+    go (earthRefusal net l) (shows-then (In net l) (networkRefusal net) (first (labelRows (boardsOf net) l)) (network-in net l) (λ _. shows (In net l) (labelRows (boardsOf net) l) ((λ _. omega arith), λ _. tt)))
+  where
+    none-shown : (e : Earth) (h : ℕ) → Within (partSaid (returnOf e h .shown)) net l
+    none-shown no-earth h = omega arith
+    none-shown (earth-at e) h = omega arith
+
+    go : (o : Option Refusal) → Shows (In net l) o → Within (partSaid (refusedOr o (earthAt (boardsOf net) (placeOf l (boardsOf net))) .shown)) net l
+    go none h = none-shown (earthOf (boardsOf net) (placeOf l (boardsOf net))) (partHead (boardsOf net) (placeOf l (boardsOf net)))
+    go (some r) h = h

@@ -3,8 +3,7 @@ use mathlib.Core.List.{List, [], _∷_, _++_}
 use mathlib.Core.Path.{_≡_, refl, sym, _∙_, ap}
 use Prim.Native.Nat.{ℕ, _+_, _*_, _/_, _%_, _≤_, _<_}
 use native.Mathlib.Omega.{arith}
-use lib.ListN.{length, getD, take, drop, length-append, take-append-drop}
-use lib.Seq.{getD-append-seam, append-snoc, length-take-le, take-all}
+use lib.ListN.{length, getD, take}
 use Rattle.lemmas.specs.Little.{little}
 use Rattle.paper.specs.declared.Ohms.{Ohms}
 use Rattle.paper.specs.declared.Head.{Head}
@@ -14,22 +13,8 @@ use Rattle.paper.specs.Kind.{ohms}
 use Rattle.paper.specs.Bounds.{AtMost}
 use Rattle.paper.specs.File.{markOf, HD, BD, headOf, boardOf}
 use Rattle.paper.specs.Write.{headBytes, boardBytes}
+use Rattle.follows.proofs.Spelt.{front-bytes, all-bytes}
 use Rattle.writer.specs.RoundTrip.{Typed, Bytes}
-
--- ---- the front of a list is its bytes, one behind the other
-bytes-from : (pre l post : List ℕ) → bytesAt (length l) (pre ++ (l ++ post)) (length pre) ≡ l
-unfolding bytesAt
-bytes-from pre [] post = refl
-bytes-from pre (x ∷ l) post =
-    let one : length pre + 1 ≡ length (pre ++ (x ∷ [])) = omega (arith, length-append pre (x ∷ [])) in
-    λ i. getD-append-seam pre x (l ++ post) 0 i
-    ∷ ((λ j. bytesAt (length l) (sym (append-snoc pre x (l ++ post)) j) (one j)) ∙ bytes-from (pre ++ (x ∷ [])) l post) i
-
-front-bytes : (k : ℕ) (s : List ℕ) → k ≤ length s → bytesAt k s 0 ≡ take k s
-front-bytes k s h = (λ i. bytesAt (sym (length-take-le k s h) i) (sym (take-append-drop k s) i) 0) ∙ bytes-from [] (take k s) (drop k s)
-
-all-bytes : (s : List ℕ) (k : ℕ) → length s ≡ k → bytesAt k s 0 ≡ s
-all-bytes s k e = front-bytes k s (omega arith) ∙ take-all k s (omega arith)
 
 -- ---- a number of two bytes
 pub two-back : (n : ℕ) → n ≤ 65535 → n % 256 + 256 * (n / 256 % 256) ≡ n

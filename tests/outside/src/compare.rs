@@ -1,14 +1,17 @@
 //! One answer of the proved program held against this one, field by field and number by number.
 
+use crate::earth::{chain, changed, short};
 use crate::judge::room_needed;
-use crate::make::{Case, SolveCase, WriteCase};
+use crate::make::{Case, EarthCase, SolveCase, WriteCase};
 use crate::paper::Paper;
+use crate::stream::earth::{answer as traced, EarthAnswer};
 use crate::stream::solve::{answer as solved, SolveAnswer};
 use crate::stream::write::{answer as written, WriteAnswer};
 use crate::stream::Answer;
 use crate::tally::Tally;
 use crate::write::readback;
 use crate::{crew, laws, solve};
+use std::fmt::{Debug, Display};
 
 /// Networks up to this size are always solved by elimination too, one in four of the larger.
 const SMALL: u32 = 12;
@@ -33,6 +36,9 @@ pub enum Witness {
     Solve,
     Crew,
     ReadBack,
+    Chain,
+    Changed,
+    Short,
 }
 
 /// An answer is held against the due one, and then by itself against what the papers promise.
@@ -40,6 +46,7 @@ pub fn check(index: u64, case: &Case, got: &Answer, tally: &mut Tally) -> Result
     match (case, got) {
         (Case::Solve(case), Answer::Solve(got)) => check_solved(index, case, got, tally),
         (Case::Write(case), Answer::Write(got)) => Ok(check_written(case, got, tally)?),
+        (Case::Earth(case), Answer::Earth(got)) => Ok(check_traced(case, got, tally)?),
         _ => Err(Finding::Own("an answer to another entry point".into())),
     }
 }
@@ -77,6 +84,15 @@ fn check_written(case: &WriteCase, got: &WriteAnswer, tally: &mut Tally) -> Resu
     readback::check(case, got)
 }
 
+fn check_traced(case: &EarthCase, got: &EarthAnswer, tally: &mut Tally) -> Result<(), String> {
+    let due = traced(&Paper::AS_WRITTEN, case);
+    tally.count_traced(case, &due.verdict);
+    same_record(&due, got)?;
+    chain::check(case, got)?;
+    tally.add_trials(&changed::check(case, got)?);
+    short::check(case, got)
+}
+
 /// Those who, each alone and without this program's own answer, see that an answer is wrong.
 pub fn alone(case: &Case, got: &Answer) -> Vec<Witness> {
     let mut seen = Vec::new();
@@ -99,33 +115,57 @@ pub fn alone(case: &Case, got: &Answer) -> Vec<Witness> {
         (Case::Write(case), Answer::Write(got)) if readback::check(case, got).is_err() => {
             seen.push(Witness::ReadBack);
         }
+        (Case::Earth(case), Answer::Earth(got)) => {
+            if chain::check(case, got).is_err() {
+                seen.push(Witness::Chain);
+            }
+            if changed::check(case, got).is_err() {
+                seen.push(Witness::Changed);
+            }
+            if short::check(case, got).is_err() {
+                seen.push(Witness::Short);
+            }
+        }
         _ => {}
     }
     seen
 }
 
 pub fn same(due: &SolveAnswer, got: &SolveAnswer) -> Result<(), String> {
-    if due.verdict != got.verdict {
-        return Err(format!("due {:?}\n got {:?}", due.verdict, got.verdict));
-    }
-    if due.shown != got.shown {
-        let (d, g) = (hex(&due.shown), hex(&got.shown));
-        return Err(format!("bytes shown: due {d}\n got {g}, {:?}", due.verdict));
-    }
+    same_said(&due.verdict, &got.verdict)?;
+    same_shown(&due.shown, &got.shown, &due.verdict)?;
     let name = |i: usize| format!("number {i} of the buffer ({})", place_name(i, due));
     first_other(&due.buffer, &got.buffer, name)
 }
 
 pub fn same_file(due: &WriteAnswer, got: &WriteAnswer) -> Result<(), String> {
-    if due.verdict != got.verdict {
-        return Err(format!("due {:?}\n got {:?}", due.verdict, got.verdict));
-    }
+    same_said(&due.verdict, &got.verdict)?;
     let name = |i: usize| format!("byte {i} of the output ({})", byte_name(i, due));
     first_other(&due.out, &got.out, name)
 }
 
+pub fn same_record(due: &EarthAnswer, got: &EarthAnswer) -> Result<(), String> {
+    same_said(&due.verdict, &got.verdict)?;
+    same_shown(&due.shown, &got.shown, &due.verdict)
+}
+
+fn same_said<V: PartialEq + Debug>(due: &V, got: &V) -> Result<(), String> {
+    if due == got {
+        return Ok(());
+    }
+    Err(format!("due {due:?}\n got {got:?}"))
+}
+
+fn same_shown(due: &[u8], got: &[u8], verdict: &impl Debug) -> Result<(), String> {
+    if due == got {
+        return Ok(());
+    }
+    let (due, got) = (hex(due), hex(got));
+    Err(format!("bytes shown: due {due}\n got {got}, {verdict:?}"))
+}
+
 /// Where two lists differ first.
-fn first_other<T: PartialEq + std::fmt::Display>(
+fn first_other<T: PartialEq + Display>(
     due: &[T],
     got: &[T],
     name: impl Fn(usize) -> String,
@@ -188,6 +228,10 @@ pub fn report(who: &str, index: u64, case: &Case, finding: &Finding) -> String {
             let boards = hex(&c.boards);
             let again = format!("write {boards} {} {} {}", c.volts, c.unit, c.room);
             (&c.note, again)
+        }
+        Case::Earth(c) => {
+            let (net, label) = (hex(&c.net), hex(&c.label));
+            (&c.note, format!("earth {net} {label}"))
         }
     };
     let at = format!("case {index} ({note})");

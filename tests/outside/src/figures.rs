@@ -1,5 +1,6 @@
 //! The paper's figures, worked through once more, and its printed example.
 
+pub mod earth;
 mod typed;
 mod unearthed;
 
@@ -331,6 +332,7 @@ pub fn all() -> bool {
     unearthed::by_hand(&mut run);
     typed::by_hand(&mut run);
     write::table::by_hand(&mut run);
+    earth::by_hand(&mut run);
     println!("{} of {} figures agree", run.agree, run.all);
     run.agree == run.all
 }

@@ -2,6 +2,7 @@
 
 mod compare;
 mod crew;
+mod earth;
 mod edges;
 mod faults;
 mod field;
@@ -25,6 +26,7 @@ use std::fs::File;
 use std::io::{self, BufReader, BufWriter, Read, Write};
 use std::process::ExitCode;
 use std::time::Instant;
+use stream::earth::EarthAnswer;
 use stream::solve::SolveAnswer;
 use stream::Answer;
 
@@ -38,7 +40,8 @@ outside faults
 outside hunt SEED COUNT
 outside edges SEED COUNT
 outside replay solve HEXNET HEXFAULT ROOM [-- COMMAND ARGS..]   (- for no bytes)
-outside replay write HEXBOARDS VOLTS UNIT ROOM [-- COMMAND ARGS..]";
+outside replay write HEXBOARDS VOLTS UNIT ROOM [-- COMMAND ARGS..]
+outside replay earth HEXNET HEXLABEL [-- COMMAND ARGS..]";
 
 /// Ok: all agree. Err: what does not; an empty one is a wrong command line.
 type Outcome = Result<(), String>;
@@ -191,6 +194,11 @@ fn replayed(words: &[&str]) -> Result<Case, String> {
             boards: unhex(boards).and_then(whole_boards)?,
             note,
         })),
+        ["earth", net, label] => Ok(Case::Earth(make::EarthCase {
+            net: unhex(net)?,
+            label: unhex(label)?,
+            note,
+        })),
         _ => Err(String::new()),
     }
 }
@@ -211,6 +219,7 @@ fn replay(case: Case, command: &[String]) -> Outcome {
             write::readback::check(case, &due)?;
             println!("the reader agrees");
         }
+        (Case::Earth(case), Answer::Earth(due)) => replay_earth(case, &due)?,
         _ => {}
     }
     if !command.is_empty() {
@@ -232,5 +241,18 @@ fn replay_solve(case: &make::SolveCase, due: &SolveAnswer) -> Outcome {
             println!("and the crew sees what it should");
         }
     }
+    Ok(())
+}
+
+fn replay_earth(case: &make::EarthCase, due: &EarthAnswer) -> Outcome {
+    println!("{:?}", due.verdict);
+    println!("shown {}", compare::hex(&due.shown));
+    println!("{}", figures::earth::text(due));
+    earth::chain::check(case, due)?;
+    earth::short::check(case, due)?;
+    println!("reader, chain and an earth fault there agree");
+    let trials = earth::changed::check(case, due)?;
+    let (tried, accepted) = (trials.tried, trials.accepted);
+    println!("files changed off the chain {tried}, still accepted and true {accepted}");
     Ok(())
 }

@@ -119,6 +119,32 @@ impl Labels {
     }
 }
 
+/// Which record an answer of R-4 names.
+#[derive(Clone, Copy)]
+pub enum Named {
+    /// The one that the paper means: where the zero sequence starts, or what stops it.
+    Deciding,
+    /// That one's feeder; the source has none, and stays.
+    ItsFeeder,
+    Board,
+    Source,
+}
+
+/// why there is no earth return.
+#[derive(Clone, Copy)]
+pub struct EarthReturn {
+    /// Kinds of record where the zero sequence starts, and that stop it; the others let it on.
+    pub starts: &'static [u8],
+    pub stops: &'static [u8],
+    /// Of several that stop it the nearest to the board counts; otherwise the nearest to the source.
+    pub nearest: bool,
+    pub named: Named,
+    /// Only a label of twelve bytes can be a board's; otherwise a shorter one is closed with spaces,
+    /// or a longer one cut.
+    pub short_refused: bool,
+    pub long_refused: bool,
+}
+
 #[derive(Clone, Copy)]
 pub struct Paper {
     /// How often zn counts in a zero-sequence term (3).
@@ -165,6 +191,8 @@ pub struct Paper {
     pub kind5_blocks: bool,
     ///
     pub unearthed: Unearthed,
+    ///
+    pub earth: EarthReturn,
 }
 
 impl Paper {
@@ -214,6 +242,14 @@ impl Paper {
             dead: true,
             zf_times: 0,
             earth_amps: true,
+        },
+        earth: EarthReturn {
+            starts: &[0, 4],
+            stops: &[1, 5],
+            nearest: true,
+            named: Named::Deciding,
+            short_refused: true,
+            long_refused: true,
         },
     };
 

@@ -1,5 +1,5 @@
-//! A second reading of accepted bytes, for `laws`, `solve` and `crew` only: it shares nothing with
-//! `judge`.
+//! A second reading of accepted bytes, for `laws`, `solve`, `crew` and `earth` only: it shares nothing
+//! with `judge`.
 //!
 //! Labels are looked for from the front, by the standard library's comparison without regard to case
 //! turn and earth return are carried from feeder to board.

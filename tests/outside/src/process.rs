@@ -2,7 +2,7 @@
 
 use crate::compare::{check, report, Finding};
 use crate::make::{self, Case};
-use crate::stream::{read_mark, read_reply, write_case, Reply, SOLVE, WRITE};
+use crate::stream::{read_mark, read_reply, write_case, Reply, EARTH, SOLVE, WRITE};
 use crate::tally::Tally;
 use std::io::{BufReader, Read, Write};
 use std::process::{Child, ChildStdout, Command, Stdio};
@@ -188,10 +188,11 @@ pub fn one(case: Case, command: &[String], tally: &mut Tally) -> Result<(), Stri
 }
 
 /// Heads that no case may have: entry point, room, lengths of the two parts.
-const WRONG_HEADS: [[u32; 4]; 16] = [
+const WRONG_HEADS: [[u32; 4]; 24] = [
     [0, 0, 0, 0],
-    [3, 0, 0, 4],
+    [4, 0, 52, 12],
     [256 + SOLVE, 0, 0, 0],
+    [256 + EARTH, 0, 52, 12],
     [u32::MAX, 0, 0, 0],
     [SOLVE, 6_401, 0, 0],
     [SOLVE, 0, 16_401, 0],
@@ -205,13 +206,27 @@ const WRONG_HEADS: [[u32; 4]; 16] = [
     [WRITE, 52, 44, 3],
     [WRITE, 52, 44, 5],
     [WRITE, 52, 44, 20],
+    [EARTH, 1, 52, 12],
+    // Room as an answer of `solve` would need it.
+    [EARTH, 37, 52, 12],
+    [EARTH, u32::MAX, 0, 0],
+    [EARTH, 0, 16_401, 12],
+    [EARTH, 0, u32::MAX, 12],
+    [EARTH, 0, 52, 65],
+    [EARTH, 0, 52, u32::MAX],
 ];
+
+/// Three streams in twelve have such a head, so that 96 have each of them once.
+fn has_wrong_head(index: u64) -> bool {
+    index % 6 == 5 || index % 12 == 6
+}
 
 /// How a stream may end behind its whole cases, and with which mark it must be answered.
 fn ending(seed: u64, index: u64) -> (Vec<u8>, &'static [u8; 4]) {
     let round = index / 6;
-    if index % 6 == 5 {
-        let head = WRONG_HEADS[round as usize % WRONG_HEADS.len()];
+    if has_wrong_head(index) {
+        let earlier = (0..index).filter(|&i| has_wrong_head(i)).count();
+        let head = WRONG_HEADS[earlier % WRONG_HEADS.len()];
         let mut bytes: Vec<u8> = head.iter().flat_map(|n| n.to_le_bytes()).collect();
         // Its parts are all there, as far as there is an end to them: only the head is wrong.
         let parts = head[2].saturating_add(head[3]).min(20_000) as usize;
@@ -219,7 +234,8 @@ fn ending(seed: u64, index: u64) -> (Vec<u8>, &'static [u8; 4]) {
         return (bytes, b"CUT\n");
     }
     let mut bytes = Vec::new();
-    let case = make::case_of(round % 2 == 1, seed, index);
+    let entry = [SOLVE, WRITE, EARTH][round as usize % 3];
+    let case = make::case_of(entry, seed, index);
     write_case(&mut bytes, &case).expect("memory takes all");
     let length = bytes.len();
     let keep = match index % 6 {

@@ -1,9 +1,12 @@
 //! What the cases have met: every rule, every kind of fault, every edge of every range.
 
+use crate::earth::changed::Trials;
+use crate::edges::earth::{way, Way};
 use crate::edges::unearthed::{around, Around};
 use crate::edges::Edges;
+use crate::judge::earth::Traced;
 use crate::judge::Verdict;
-use crate::make::{SolveCase, WriteCase};
+use crate::make::{EarthCase, SolveCase, WriteCase};
 use crate::write::Written;
 use std::collections::BTreeMap;
 
@@ -76,10 +79,59 @@ impl WithoutReturn {
     }
 }
 
+/// Answers of `earth`, and labels that were none.
+#[derive(Default)]
+struct Traces {
+    /// Stopped, and with an earth return, by how far away the record named is.
+    ways: [[u64; 6]; 2],
+    /// 14 by the label's bytes.
+    lengths: [u64; 8],
+    trials: Trials,
+}
+
+const WAYS: &str = "own record, 1, 2, 3 to 9, 10 to 99, 100 and more away";
+const LENGTHS: &str = "0, 1, 2 to 10, 11, 12, 13, 14 to 63, 64";
+
+impl Traces {
+    fn answered(&mut self, earthed: u32, way: &Way) {
+        let far = match way.length() {
+            near @ 0..=2 => near,
+            3..=9 => 3,
+            10..=99 => 4,
+            _ => 5,
+        };
+        self.ways[earthed as usize][far] += 1;
+    }
+
+    fn unknown(&mut self, length: usize) {
+        let at = match length {
+            0 | 1 => length,
+            2..=10 => 2,
+            11..=13 => length - 8,
+            14..=63 => 6,
+            _ => 7,
+        };
+        self.lengths[at] += 1;
+    }
+
+    fn print(&self) {
+        let [stopped, from] = &self.ways;
+        println!("  earth return from record r: {WAYS} {from:?}");
+        println!("  none, stopped at record r: the same {stopped:?}");
+        println!("  14 by bytes of the label: {LENGTHS} {:?}", self.lengths);
+        let (tried, taken) = (self.trials.tried, self.trials.accepted);
+        println!("  files changed off the chain {tried}, still accepted and true {taken}");
+        let earthing = self.trials.earthing;
+        println!("    of these beside no earth return with a new kind 4 record {earthing}");
+    }
+}
+
 #[derive(Default)]
 pub struct Tally {
     to_solve: Outcomes,
     to_write: Outcomes,
+    to_trace: Outcomes,
+    traces: Traces,
     /// By fault kind and phase.
     accepted: [[u64; 3]; 4],
     without_return: WithoutReturn,
@@ -119,14 +171,35 @@ impl Tally {
         self.edges.look_typed_boards(case, v);
     }
 
+    pub fn count_traced(&mut self, case: &EarthCase, v: &Traced) {
+        let last = case.net.len().saturating_sub(8) / 44;
+        self.to_trace.count(v.number, v.place, last);
+        let way = way(case, v);
+        self.edges.look_traced(case, v, way.as_ref());
+        match &way {
+            Some(way) => self.traces.answered(v.earthed, way),
+            None if v.number == 14 => self.traces.unknown(case.label.len()),
+            None => {}
+        }
+    }
+
+    pub fn add_trials(&mut self, more: &Trials) {
+        self.traces.trials.tried += more.tried;
+        self.traces.trials.accepted += more.accepted;
+        self.traces.trials.earthing += more.earthing;
+    }
+
     pub fn print(&self) {
         // 18 is withdrawn.
         let rules: Vec<u32> = (0..20).filter(|&rule| rule != 18).collect();
         self.to_solve.print("solve", &rules);
         self.to_write
             .print("write", &[0, 3, 6, 7, 8, 9, 10, 11, 20]);
-        let (solve, write) = (self.to_solve.all(), self.to_write.all());
-        println!("cases {}: {solve} solve, {write} write", solve + write);
+        let network: Vec<u32> = (0..12).chain([14]).collect();
+        self.to_trace.print("earth", &network);
+        let all = [&self.to_solve, &self.to_write, &self.to_trace].map(Outcomes::all);
+        let (cases, [solve, write, earth]) = (all.iter().sum::<u64>(), all);
+        println!("cases {cases}: {solve} solve, {write} write, {earth} earth");
         let taken = self.to_solve.rules[0];
         println!("solve: accepted {taken}, refused {}", solve - taken);
         for (kind, by_phase) in self.accepted.iter().enumerate() {
@@ -141,6 +214,9 @@ impl Tally {
         println!("write: accepted {taken}, refused {}", write - taken);
         println!("  held against the reader {} times", self.read_back);
         println!("  networks of solve cases written again {}", self.copied);
+        let taken = self.to_trace.rules[0];
+        println!("earth: answered {taken}, refused {}", earth - taken);
+        self.traces.print();
     }
 
     pub fn print_edges(&self) {

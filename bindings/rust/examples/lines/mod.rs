@@ -1,4 +1,7 @@
 //! The lines of an answer, as the program `short` prints them: for the examples.
+// no example prints all of them
+#![allow(dead_code)]
+
 use ranjupeli::{Answer, Outcome};
 
 // A label without its closing spaces.

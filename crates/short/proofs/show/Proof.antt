@@ -27,6 +27,9 @@ array-share-prefix-out c = on-page c
 slice-aggregate-print : tie.Need-slice-aggregate-print
 slice-aggregate-print c = sym (length-take-le _ _ (on-page (c .before)))
 
+slice-aggregate-print-2 : tie.Need-slice-aggregate-print-2
+slice-aggregate-print-2 c = search needs
+
 print-requires : tie.Need-print-requires
 print-requires c κs = search needs
 
@@ -42,5 +45,6 @@ show-spec =
     answer-requires
     array-share-prefix-out
     slice-aggregate-print
+    slice-aggregate-print-2
     print-requires
     returns)

@@ -1,16 +1,16 @@
 -- `solve::solve` meets its contract: the network is refused, the fault is refused, or both are accepted and the buffer holds the answer. Assumes nothing.
-use mathlib.Core.Path.{sym, subst}
-use Prim.Native.Nat.{_≤_}
 use native.Mathlib.Omega.{arith}
 use lib.ListN.{length}
 use borrow.Author.Needs.{needs}
 use Rattle.paper.specs.Phase.{Asked, asked}
-use Rattle.network.specs.declared.Network.{Network}
-use Rattle.solve.proofs.Asking.{of-network}
+use Rattle.network.proofs.Kept.{network-few}
 use Rattle.answer.specs.Posed.{Posed}
 use Rattle.solve.proofs.Outcomes.{Asking, refused-network, refused-fault, none-broken, as-posed, as-counted, room-there, refuses, accepts}
 use Rattle.solve.proofs.solve.Statement.{statement}
 use Rattle.solve.proofs.solve.Tie as tie
+
+label-in-requires : tie.Need-label-in-requires
+label-in-requires c κs = search needs
 
 read-requires : tie.Need-read-requires
 read-requires c κs = search needs
@@ -24,7 +24,7 @@ refused-requires c κs = search needs
 returns : tie.Need-returns
 returns c =
     let o = c .before .before in
-    refuses _ _ _ (refused-network _ _ _ (o .before .before .read .ensures) (o .outcome .given .1)) (c .refused .ensures)
+    refuses _ _ _ (refused-network _ _ _ _ (o .before .before .read .ensures) (o .outcome .given .1)) (c .refused .ensures)
 
 enum-told : tie.Need-enum-told
 enum-told c = search needs
@@ -34,8 +34,8 @@ cast-ask c = search needs
 
 ask-requires : tie.Need-ask-requires
 ask-requires c κs =
-    let r = c .before .before .before .before .before in
-    subst (λ (g : Network). g .head .boards ≤ 256) (sym (r .read .ensures)) (of-network _)
+    let t = c .before .before in
+    network-few _ _ (t .before .before .read .ensures) (t .enum-told .given .1)
 
 enum-known-heard : tie.Need-enum-known-heard
 enum-known-heard c = search needs
@@ -45,13 +45,15 @@ refused-requires-2 c κs = search needs
 
 -- ---- what is known once the question is put
 abbrev network : tie.After-ask → tie.After-enum-told
-network c = c .before .before .before .before
+network c = c .before .before .before
 
 abbrev start : tie.After-ask → tie.Start
-start c = network c .before .before .before .before .before
+start c = network c .before .before .before .before .before .before
 
 asking : (c : tie.After-ask) → Asking (start c .args .net .now) (start c .args .flt .now) (length (start c .args .buffer .now)) (network c .before .before .read .result) (c .ask .result)
-asking c = record { read = network c .before .before .read .ensures; taken = network c .enum-told .given .1; told = c .ask .ensures }
+asking c =
+    let r = network c .before .before in
+    record { label = r .before .label-in .result; label-is = r .before .label-in .ensures; read = r .read .ensures; taken = network c .enum-told .given .1; told = c .ask .ensures }
 
 -- ---- and accepted
 abbrev put : tie.After-fault → tie.After-ask
@@ -88,12 +90,13 @@ returns-3 c =
     let b = c .before .before .before .before in
     let heard = b .before .enum-told2 .given .1 in
     let a = c .before .before .answer .ensures in
-    accepts _ _ _ (none-broken (asking (put b)) heard) (c .accepted .ensures) (a .0 (q b) (posed b)) (posed b .same-place) (as-counted (asking (put b)) heard) (a .1 (q b) (posed b))
+    accepts _ _ _ (none-broken (asking (put b)) heard) (c .accepted .ensures) (a .0 (q b) (posed b)) (posed b .same-place) (as-counted (asking (put b))) (a .1 (q b) (posed b))
 
 pub solve-spec : {M : Type 1} → statement M
 solve-spec =
     tie.close
     (tie.spec
+    label-in-requires
     read-requires
     enum-known-outcome
     refused-requires

@@ -1,5 +1,6 @@
 //! Which edges of the paper's ranges the cases have met, on either side.
 
+pub mod earth;
 mod solve;
 mod typed;
 pub mod unearthed;

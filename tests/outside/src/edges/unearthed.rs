@@ -7,15 +7,16 @@ use crate::make::SolveCase;
 use std::collections::HashMap;
 
 /// A board of an accepted network, carried from its feeder.
-struct Board {
+pub struct Board {
     up: Option<usize>,
-    kind: u8,
+    pub kind: u8,
     /// The record that its part of the network hangs on: boards are joined if it is the same one.
     part: usize,
-    earthed: bool,
+    pub earthed: bool,
 }
 
-fn boards(net: &[u8]) -> (Vec<Board>, HashMap<Vec<u8>, usize>) {
+/// The boards, and where each label stands.
+pub fn boards(net: &[u8]) -> (Vec<Board>, HashMap<Vec<u8>, usize>) {
     let mut places = HashMap::new();
     let mut out: Vec<Board> = Vec::new();
     for (r, b) in net[8..].chunks_exact(44).enumerate() {
@@ -65,7 +66,7 @@ pub fn around(case: &SolveCase, v: &Verdict) -> Option<Around> {
     (!all[k].earthed).then(|| count(&all, k))
 }
 
-fn chain(all: &[Board], r: usize) -> impl Iterator<Item = usize> + '_ {
+pub fn chain(all: &[Board], r: usize) -> impl Iterator<Item = usize> + '_ {
     std::iter::successors(Some(r), move |&q| all[q].up)
 }
 

@@ -5,6 +5,7 @@
 //! read and compared. The right answer to the same case takes it too, and must pass. No case is
 //! drawn, so nothing depends on a seed; `hunt` says how soon the drawn cases meet the same faults.
 
+mod earth;
 mod list;
 mod premise;
 mod typed;
@@ -16,12 +17,13 @@ use crate::figures::paper_records;
 use crate::judge::room_needed;
 use crate::make::labels::label;
 use crate::make::model::Draft;
-use crate::make::{self, Case, SolveCase, WriteCase};
+use crate::make::{self, Case, EarthCase, SolveCase, WriteCase};
 use crate::paper::Paper;
 use crate::process::compare;
+use crate::stream::earth::EarthAnswer;
 use crate::stream::solve::SolveAnswer;
 use crate::stream::write::WriteAnswer;
-use crate::stream::{answer, write_answer, Answer};
+use crate::stream::{answer, write_answer, Answer, EARTH, WRITE};
 use crate::tally::Tally;
 use crate::write::file_length;
 
@@ -33,6 +35,7 @@ enum Fault {
     /// Damage to a right answer.
     Solved(fn(&mut SolveAnswer, &SolveCase)),
     Written(fn(&mut WriteAnswer, &WriteCase)),
+    Traced(fn(&mut EarthAnswer, &EarthCase)),
     /// Damage to the stream of a right answer.
     Stream(fn(&mut Vec<u8>)),
 }
@@ -43,7 +46,9 @@ enum Made {
     Solve(fn(&mut Draft)),
     /// To be written, in one byte more than the file needs.
     Write(fn(&mut Draft)),
-    /// Either of these, where two labels meet.
+    /// The label whose earth return is asked for.
+    Earth(fn(&mut Draft) -> Vec<u8>),
+    /// Any of these, where two labels meet.
     Met(typed::Meeting),
 }
 
@@ -52,8 +57,15 @@ impl Made {
         match self {
             Made::Solve(change) => to_solve(note, change),
             Made::Write(change) => to_write(note, change),
-            Made::Met(m) if m.write => to_write(note, |d| m.arrange(d)),
-            Made::Met(m) => to_solve(note, |d| m.arrange(d)),
+            Made::Earth(change) => to_trace(note, change),
+            Made::Met(m) => match m.entry {
+                WRITE => to_write(note, |d| m.arrange(d)),
+                EARTH => to_trace(note, |d| {
+                    m.arrange(d);
+                    d.fault_label.to_vec()
+                }),
+                _ => to_solve(note, |d| m.arrange(d)),
+            },
         }
     }
 }
@@ -72,6 +84,12 @@ fn to_write(note: &str, change: impl Fn(&mut Draft)) -> Case {
     draft.recs.iter_mut().for_each(|r| r.mark = *b"xy");
     change(&mut draft);
     Case::Write(make::finish_file(&draft, note))
+}
+
+fn to_trace(note: &str, change: impl Fn(&mut Draft) -> Vec<u8>) -> Case {
+    let mut draft = paper_draft();
+    let label = change(&mut draft);
+    Case::Earth(make::finish_earth(&draft, label, note))
 }
 
 /// The paper's network with phase a of HALL to earth.
@@ -108,6 +126,7 @@ fn rows() -> Vec<Row> {
     let mut rows = drawn();
     rows.extend(list::streams());
     rows.extend(writer::streams());
+    rows.extend(earth::streams());
     rows.extend(typed::others());
     rows
 }
@@ -118,6 +137,7 @@ fn drawn() -> Vec<Row> {
     rows.extend(unearthed::drawn());
     rows.extend(writer::drawn());
     rows.extend(typed::drawn());
+    rows.extend(earth::drawn());
     rows
 }
 
@@ -141,6 +161,7 @@ impl Row {
         match (&self.fault, &mut a, case) {
             (Fault::Solved(damage), Answer::Solve(a), Case::Solve(case)) => damage(a, case),
             (Fault::Written(damage), Answer::Write(a), Case::Write(case)) => damage(a, case),
+            (Fault::Traced(damage), Answer::Earth(a), Case::Earth(case)) => damage(a, case),
             _ => {}
         }
         let mut bytes = stream(&a);
@@ -175,6 +196,9 @@ fn name(who: Witness) -> &'static str {
         Witness::Solve => "solve alone",
         Witness::Crew => "the crew alone",
         Witness::ReadBack => "the reader alone",
+        Witness::Chain => "the chain alone",
+        Witness::Changed => "changed files alone",
+        Witness::Short => "an earth fault alone",
     }
 }
 

@@ -11,16 +11,18 @@ use crate::make::{SolveCase, WriteCase};
 use crate::paper::Paper;
 use crate::stream::solve::SolveAnswer;
 use crate::stream::write::WriteAnswer;
+use crate::stream::{EARTH, SOLVE, WRITE};
 
 // Who must see a fault beside the comparison.
 const NOBODY: &[Witness] = &[];
 const EVERY: &[Witness] = &[Witness::Laws, Witness::Solve, Witness::Crew];
 const READER: &[Witness] = &[Witness::ReadBack];
+const CHAIN: &[Witness] = &[Witness::Chain];
 
 /// The paper's network with another label for BOOTH-WEST-1, and a second label where a rule meets it.
 #[derive(Clone, Copy)]
 pub struct Meeting {
-    pub write: bool,
+    pub entry: u32,
     rule: u32,
     labels: [&'static [u8]; 2],
 }
@@ -39,18 +41,24 @@ impl Meeting {
 
     pub fn told(&self) -> String {
         let [board, other] = self.labels.map(|l| l.escape_ascii());
-        let entry = if self.write { "write: " } else { "" };
+        let entry = match self.entry {
+            WRITE => "write: ",
+            EARTH => "earth: ",
+            _ => "",
+        };
         format!("{entry}{} of {board} and {other}", self.rule)
     }
 
     /// A wrong reading takes one label for two, or two for one. `laws`, `solve` and the crew can see
-    /// what is accepted for that and should not be; the reader sees every slip of the writer.
+    /// what is accepted for that and should not be; the reader sees every slip of the writer, and with
+    /// the chain every one before an earth return is said.
     fn alone(&self) -> &'static [Witness] {
         let one = self.labels[0].eq_ignore_ascii_case(self.labels[1]);
-        match (self.write, one == (self.rule == 7)) {
-            (true, _) => READER,
-            (false, true) => EVERY,
-            (false, false) => NOBODY,
+        match (self.entry, one == (self.rule == 7)) {
+            (WRITE, _) => READER,
+            (EARTH, _) => CHAIN,
+            (_, true) => EVERY,
+            (_, false) => NOBODY,
         }
     }
 }
@@ -68,11 +76,14 @@ struct Slip {
 fn rows(slip: &Slip) -> Vec<Row> {
     let mut rows = Vec::new();
     for &rule in slip.rules {
-        // Nobody writes a fault.
-        let entries: &[bool] = if rule == 14 { &[false] } else { &[false, true] };
-        for &write in entries {
+        // The writer looks for no board.
+        let entries: &[u32] = match rule {
+            14 => &[SOLVE, EARTH],
+            _ => &[SOLVE, WRITE, EARTH],
+        };
+        for &entry in entries {
             let met = Meeting {
-                write,
+                entry,
                 rule,
                 labels: slip.labels,
             };

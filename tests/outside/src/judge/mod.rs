@@ -5,6 +5,7 @@ pub mod amps;
 pub mod answer;
 pub mod board;
 pub mod chains;
+pub mod earth;
 pub mod fault;
 pub mod network;
 mod unearthed;
@@ -14,6 +15,7 @@ use crate::paper::Paper;
 /// Whose bytes a part is of, in the numbers of the stream.
 pub const NETWORK: u32 = 1;
 pub const FAULT: u32 = 2;
+pub const LABEL: u32 = 3;
 
 /// Everything an outcome says beside the buffer. Fields an outcome does not have are 0.
 #[derive(Clone, Copy, Debug, PartialEq, Eq, Default)]

@@ -84,13 +84,14 @@ mod tests {
     use crate::make::{case_of, Case};
     use crate::paper::Paper;
     use crate::plan::plan;
+    use crate::stream::SOLVE;
 
     /// The walk from board to board here and the marking in `plan` find the same boards.
     #[test]
     fn joined_in_two_ways() {
         let mut met = 0;
         for index in 0..2_000 {
-            let Case::Solve(c) = case_of(false, 2_026, index) else {
+            let Case::Solve(c) = case_of(SOLVE, 2_026, index) else {
                 continue;
             };
             let (Ok(grid), Some(plan)) = (read(&Paper::AS_WRITTEN, &c.net), plan(&c.net, &c.fault))

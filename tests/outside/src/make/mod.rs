@@ -2,9 +2,11 @@
 
 mod aim;
 mod damage;
+mod earth;
 mod file;
 pub mod labels;
 pub mod model;
+pub mod off_chain;
 mod sound;
 mod typed;
 mod unearthed;
@@ -12,12 +14,14 @@ mod unearthed;
 use self::model::Draft;
 use crate::judge::board::RECORD;
 use crate::rng::Rng;
+use crate::stream::{EARTH, SOLVE, WRITE};
 
-/// One call, of either entry point.
+/// One call, of any entry point.
 #[derive(Clone)]
 pub enum Case {
     Solve(SolveCase),
     Write(WriteCase),
+    Earth(EarthCase),
 }
 
 #[derive(Clone)]
@@ -41,28 +45,51 @@ pub struct WriteCase {
     pub note: String,
 }
 
+#[derive(Clone)]
+pub struct EarthCase {
+    pub net: Vec<u8>,
+    /// Of any length: what is no label of twelve bytes is to be refused.
+    pub label: Vec<u8>,
+    pub note: String,
+}
+
 pub const MOST_NET: usize = 16_400;
 pub const MOST_FAULT: usize = 64;
 pub const MOST_ROOM: usize = 6_400;
 pub const MOST_BOARDS: usize = 372;
 pub const MOST_OUT: usize = 16_400;
+pub const MOST_LABEL: usize = 64;
 
-/// Case `index` of `seed`, without making those before it. One in five is to be written.
+/// Case `index` of `seed`, without making those before it. One in eight asks for the earth return; of
+/// the others one in five is to be written.
 pub fn case(seed: u64, index: u64) -> Case {
     let mut rng = Rng::for_case(seed, index);
-    match rng.below(5) {
-        0 => Case::Write(to_write(&mut rng)),
-        _ => Case::Solve(to_solve(&mut rng)),
-    }
+    let entry = match rng.below(40) {
+        0..=4 => EARTH,
+        5..=11 => WRITE,
+        _ => SOLVE,
+    };
+    made(entry, &mut rng)
 }
 
 /// The same, but of one entry point, whichever the seed would have drawn.
-pub fn case_of(write: bool, seed: u64, index: u64) -> Case {
-    let mut rng = Rng::for_case(seed, index);
-    match write {
-        true => Case::Write(to_write(&mut rng)),
-        false => Case::Solve(to_solve(&mut rng)),
+pub fn case_of(entry: u32, seed: u64, index: u64) -> Case {
+    made(entry, &mut Rng::for_case(seed, index))
+}
+
+fn made(entry: u32, rng: &mut Rng) -> Case {
+    match entry {
+        EARTH => Case::Earth(to_trace(rng)),
+        WRITE => Case::Write(to_write(rng)),
+        _ => Case::Solve(to_solve(rng)),
     }
+}
+
+fn to_trace(rng: &mut Rng) -> EarthCase {
+    let mut case = earth::mixed(rng);
+    case.net.truncate(MOST_NET);
+    case.label.truncate(MOST_LABEL);
+    case
 }
 
 fn to_write(rng: &mut Rng) -> WriteCase {
@@ -112,6 +139,15 @@ pub fn finish_file(draft: &Draft, note: &str) -> WriteCase {
         volts: draft.volts,
         unit: draft.unit,
         boards: draft.recs.iter().flat_map(|r| r.bytes()).collect(),
+        note: note.into(),
+    }
+}
+
+/// The same draft as a network in which a label is asked for.
+pub fn finish_earth(draft: &Draft, label: Vec<u8>, note: &str) -> EarthCase {
+    EarthCase {
+        net: draft.net_bytes(),
+        label,
         note: note.into(),
     }
 }

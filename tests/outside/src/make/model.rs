@@ -12,6 +12,19 @@ pub struct Rec {
 }
 
 impl Rec {
+    /// From the 44 bytes of a record, whatever they say.
+    pub fn read(bytes: &[u8]) -> Rec {
+        let word = |i: usize| u16::from_le_bytes([bytes[28 + 2 * i], bytes[29 + 2 * i]]);
+        Rec {
+            mark: [bytes[0], bytes[1]],
+            label: std::array::from_fn(|i| bytes[2 + i]),
+            feeder: std::array::from_fn(|i| bytes[14 + i]),
+            kind: bytes[26],
+            clock: bytes[27],
+            z: std::array::from_fn(word),
+        }
+    }
+
     pub fn bytes(&self) -> Vec<u8> {
         let mut out = self.mark.to_vec();
         out.extend(self.label);
@@ -84,6 +97,14 @@ impl Draft {
                 rec.feeder = name;
             }
         }
+    }
+
+    /// The records that are not on a board's chain, as first drawn.
+    pub fn off_chain(&self, board: usize) -> Vec<usize> {
+        let chain = std::iter::successors(Some(board), |&r| self.up[r]);
+        let chain: Vec<usize> = chain.collect();
+        let all = 0..self.recs.len();
+        all.filter(|r| !chain.contains(r)).collect()
     }
 
     /// Sums of a board as the maker keeps them, to come close to the limits.

@@ -63,11 +63,17 @@ fn kind(rng: &mut Rng, mix: usize) -> u8 {
         // Of parts: the source's own only, several, several with earthed ones between them.
         6 => rng.pick(&[2, 2, 3]),
         7 => rng.pick(&[2, 2, 2, 3, 3, 5]),
-        _ => rng.pick(&[2, 2, 2, 3, 3, 4, 5]),
+        8 => rng.pick(&[2, 2, 2, 3, 3, 4, 5]),
+        // Along a chain: all kinds in every order, what stops and cables, few transformers far apart.
+        9 => rng.pick(&[2, 3, 4, 5, 5]),
+        10 => rng.pick(&[2, 2, 3, 5]),
+        11 if rng.below(25) == 0 => rng.pick(&[4, 5]),
+        12 if rng.below(250) == 0 => rng.pick(&[4, 5]),
+        _ => rng.pick(&[2, 2, 3]),
     }
 }
 
-fn clock(rng: &mut Rng, kind: u8) -> u8 {
+pub fn clock(rng: &mut Rng, kind: u8) -> u8 {
     match kind {
         4 => 2 * rng.below(6) as u8 + 1,
         5 => rng.below(12) as u8,
@@ -188,28 +194,39 @@ pub fn network(rng: &mut Rng, count: usize) -> Draft {
 
 /// A board for each of these names.
 pub fn named(rng: &mut Rng, names: &[Label]) -> Draft {
-    let mix = rng.below(6);
-    grown(rng, names, mix, 250)
+    let (shape, mix) = (rng.below(7), rng.below(6));
+    grown(rng, names, shape, mix, 250)
 }
 
 /// The same, of parts without earth return for the most.
 pub fn parts(rng: &mut Rng, count: usize) -> Draft {
     let names = labels::distinct(rng, count);
-    let mix = rng.range(6, 8);
-    grown(rng, &names, mix, 500)
+    let (shape, mix) = (rng.below(7), rng.range(6, 8));
+    grown(rng, &names, shape, mix, 500)
+}
+
+/// The same, of long chains with transformers that start the zero sequence and stop it.
+pub fn chains(rng: &mut Rng, count: usize) -> Draft {
+    let names = labels::distinct(rng, count);
+    let (shape, mix) = match count {
+        0..=60 => (rng.pick(&[0, 0, 3, 3, 4, 5]), rng.range(8, 11)),
+        _ => (rng.pick(&[0, 0, 3]), rng.pick(&[9, 11, 12, 12])),
+    };
+    grown(rng, &names, shape, mix, 350)
 }
 
 /// The source is without earth in `unearthed` of 1,000.
-fn grown(rng: &mut Rng, names: &[Label], mix: usize, unearthed: usize) -> Draft {
+fn grown(rng: &mut Rng, names: &[Label], shape: usize, mix: usize, unearthed: usize) -> Draft {
     let count = names.len();
     let mut draft = empty(rng, count);
     // In how many of 1,000 a feeder is typed in another case than its board.
     let others = rng.pick(&[0, 0, 500, 900]);
-    let (mut shape, usual) = (rng.below(7), size(rng));
-    if count >= 256 && rng.coin() {
+    let usual = size(rng);
+    let shape = match count {
         // The deepest chain there can be.
-        shape = 0;
-    }
+        256.. if rng.coin() => 0,
+        _ => shape,
+    };
     let mut sums: Vec<Sums> = Vec::with_capacity(count);
     for r in 0..count {
         let up = (r > 0).then(|| feeder(rng, shape, r));
@@ -234,7 +251,7 @@ fn grown(rng: &mut Rng, names: &[Label], mix: usize, unearthed: usize) -> Draft 
 }
 
 /// A board for the fault: the last and the first more often than others.
-fn board(rng: &mut Rng, count: usize) -> usize {
+pub fn board(rng: &mut Rng, count: usize) -> usize {
     match rng.below(4) {
         0 => count - 1,
         1 if rng.coin() => 0,

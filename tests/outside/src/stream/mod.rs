@@ -1,27 +1,31 @@
 //! Cases and answers as bytes: little endian, one after the other.
 //!
 //! A case is four numbers of four bytes and two parts: which entry point is asked, the room, the
-//! lengths of the parts, the parts. `solve` and `write` say how their answers are laid out.
+//! lengths of the parts, the parts. `solve`, `write` and `earth` say how their answers are laid out.
 
+pub mod earth;
 pub mod solve;
 pub mod write;
 
+use self::earth::EarthAnswer;
 use self::solve::SolveAnswer;
 use self::write::WriteAnswer;
 use crate::judge::board::{word as half, RECORD};
-use crate::make::{Case, SolveCase, WriteCase};
-use crate::make::{MOST_BOARDS, MOST_FAULT, MOST_NET, MOST_OUT, MOST_ROOM};
+use crate::make::{Case, EarthCase, SolveCase, WriteCase};
+use crate::make::{MOST_BOARDS, MOST_FAULT, MOST_LABEL, MOST_NET, MOST_OUT, MOST_ROOM};
 use crate::paper::Paper;
 use std::io::{self, ErrorKind, Read, Write};
 
 /// The entry points by their numbers.
 pub const SOLVE: u32 = 1;
 pub const WRITE: u32 = 2;
+pub const EARTH: u32 = 3;
 
 #[derive(Clone, PartialEq, Eq)]
 pub enum Answer {
     Solve(SolveAnswer),
     Write(WriteAnswer),
+    Earth(EarthAnswer),
 }
 
 /// The answer under some reading of the paper (`Paper::AS_WRITTEN`, or one with a fault in it).
@@ -29,6 +33,7 @@ pub fn answer(paper: &Paper, case: &Case) -> Answer {
     match case {
         Case::Solve(c) => Answer::Solve(solve::answer(paper, c)),
         Case::Write(c) => Answer::Write(write::answer(paper, c)),
+        Case::Earth(c) => Answer::Earth(earth::answer(paper, c)),
     }
 }
 
@@ -40,6 +45,7 @@ pub fn write_case(out: &mut impl Write, case: &Case) -> io::Result<()> {
             head = [c.volts, c.unit].map(u16::to_le_bytes).concat();
             (WRITE, c.room, &c.boards, &head)
         }
+        Case::Earth(c) => (EARTH, 0, &c.net, &c.label),
     };
     let lengths = [room, first.len(), second.len()].map(|l| l as u32);
     for number in [entry].iter().chain(&lengths) {
@@ -81,6 +87,8 @@ fn asked_rightly(entry: u32, room: usize, first: usize, second: usize) -> bool {
             let boards = first % RECORD == 0 && first <= RECORD * MOST_BOARDS;
             room <= MOST_OUT && boards && second == 4
         }
+        // Nothing is lent to be written.
+        EARTH => room == 0 && first <= MOST_NET && second <= MOST_LABEL,
         _ => false,
     }
 }
@@ -115,6 +123,11 @@ fn case_from(entry: u32, room: usize, first: Vec<u8>, second: Vec<u8>) -> Case {
             boards: first,
             note,
         }),
+        EARTH => Case::Earth(EarthCase {
+            net: first,
+            label: second,
+            note,
+        }),
         _ => Case::Solve(SolveCase {
             room,
             net: first,
@@ -128,7 +141,17 @@ pub fn write_answer(out: &mut impl Write, a: &Answer) -> io::Result<()> {
     out.write_all(&match a {
         Answer::Solve(a) => a.bytes(),
         Answer::Write(a) => a.bytes(),
+        Answer::Earth(a) => a.bytes(),
     })
+}
+
+/// The bytes that a part names.
+fn part(whole: &[u8], start: u32, length: u32) -> Vec<u8> {
+    let (start, length) = (start as usize, length as usize);
+    let mut part: Vec<u8> = whole.iter().skip(start).take(length).copied().collect();
+    // A wrong reading may name bytes that are not there; its stream has to be as long as it says.
+    part.resize(length, 0);
+    part
 }
 
 /// What `batch` may say next.
@@ -171,6 +194,7 @@ pub fn read_reply(from: &mut impl Read, case: &Case) -> io::Result<Reply> {
     let taken = match case {
         Case::Solve(_) => solve::take(from, number)?.map(Answer::Solve),
         Case::Write(_) => write::take(from, number)?.map(Answer::Write),
+        Case::Earth(_) => earth::take(from, number)?.map(Answer::Earth),
     };
     Ok(taken.map_or_else(Reply::Broken, Reply::Answer))
 }
@@ -191,7 +215,8 @@ pub fn serve(from: &mut impl Read, out: &mut impl Write, budget: u64) -> io::Res
 mod tests {
     use super::*;
 
-    /// Some answers show many bytes, some none; some have a buffer, some none; some are files.
+    /// Some answers show many bytes, some none; some have a buffer, some none; some are files, some
+    /// name a record.
     #[test]
     fn answers_are_read_as_written() {
         for index in 0..400 {

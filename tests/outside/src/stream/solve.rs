@@ -2,7 +2,7 @@
 //! where they start, how many they are (four each), these bytes themselves, how many elements the
 //! buffer has (four), and the elements (eight each).
 
-use super::{fill, word, Taken};
+use super::{fill, part, word, Taken};
 use crate::judge::{judge, Verdict, NETWORK};
 use crate::make::{SolveCase, MOST_NET, MOST_ROOM};
 use crate::paper::Paper;
@@ -26,22 +26,17 @@ pub fn answer(paper: &Paper, case: &SolveCase) -> SolveAnswer {
     let verdict = judge(paper, &case.net, &case.fault, &mut buffer);
     SolveAnswer {
         verdict,
-        shown: part(&verdict, case),
+        shown: part(lent(&verdict, case), verdict.start, verdict.length),
         buffer,
     }
 }
 
-fn part(v: &Verdict, case: &SolveCase) -> Vec<u8> {
-    let whole = if v.whose == NETWORK {
-        &case.net
-    } else {
-        &case.fault
-    };
-    let (start, length) = (v.start as usize, v.length as usize);
-    let mut part: Vec<u8> = whole.iter().skip(start).take(length).copied().collect();
-    // A wrong reading may name bytes that are not there; its stream has to be as long as it says.
-    part.resize(length, 0);
-    part
+/// Whose bytes are shown.
+fn lent<'a>(v: &Verdict, case: &'a SolveCase) -> &'a [u8] {
+    match v.whose {
+        NETWORK => &case.net,
+        _ => &case.fault,
+    }
 }
 
 impl SolveAnswer {
