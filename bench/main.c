@@ -127,8 +127,8 @@ static int time_shape(const table *t, int shape) {
     return 1;
 }
 
-/* The first call of a function of the C library goes through the loader, which takes stack of its own: so once before. */
-static void print_stack(const table *t) {
+/* Whether ours takes no more than the header says. The first call of a function of the C library goes through the loader, which takes stack of its own: so once before. */
+static int print_stack(const table *t) {
     static question q;
     ask(&q, 0, 256);
     printf("stack in bytes, %s:", t->name);
@@ -136,7 +136,18 @@ static void print_stack(const table *t) {
         run(who, &q);
         printf(" %s %zu", names[who], stack_of(who, &q));
     }
+    int within = stack_of(t->first, &q) < RANJUPELI_STACK;
+    if (!within)
+        printf(", more than %d", RANJUPELI_STACK);
     printf("\n");
+    return within;
+}
+
+static int print_stacks(void) {
+    int within = 1;
+    for (const table *t = tables; t < tables + TABLES; t++)
+        within &= print_stack(t);
+    return within ? 0 : 1;
 }
 
 static int time_all(void) {
@@ -146,13 +157,13 @@ static int time_all(void) {
             if (!time_shape(t, shape))
                 return 1;
     }
-    for (const table *t = tables; t < tables + TABLES; t++)
-        print_stack(t);
-    return 0;
+    return print_stacks();
 }
 
 int main(int argc, char **argv) {
     static question q;
+    if (argc == 2)
+        return print_stacks();
     if (argc > 4) {
         ask(&q, atoi(argv[1]), atoi(argv[2]));
         for (int i = atoi(argv[4]); i > 0; i--)

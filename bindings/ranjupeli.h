@@ -10,7 +10,7 @@
  * Limits, and what the caller answers for (nothing can prove it of C):
  * - x86-64 only. They need memcpy and memset, and nothing else: no heap, no files, no locale, no state between calls.
  * - They start no thread and take no lock. Calls in several threads do not meet, as long as no two share a buffer or an output.
- * - Stack: less than 48 KB below the caller (docs/SPEED.md has the table). Give a thread that calls them 64 KB or more.
+ * - Stack: less than 48 KB below the caller, RANJUPELI_STACK (docs/SPEED.md has the table). Give a thread that calls them 64 KB or more.
  * - No pointer is null, even where its length is 0: no boards, no output, no label. Each length is true.
  * - The buffer is aligned for int64_t and overlaps neither file; the output does not overlap the boards.
  * - Any bytes and any boards may be lent, of any length. An accepted network has 8 + 44 N bytes, N from 1 to 256; a fault has 20, a label 12.
@@ -24,6 +24,9 @@
 #ifdef __cplusplus
 extern "C" {
 #endif
+
+/* the bytes of stack that a call takes less than; the project's gate holds it */
+#define RANJUPELI_STACK (48 * 1024)
 
 /* the numbers that n boards need, and those that the largest network needs */
 #define RANJUPELI_NUMBERS(n) (13 + 24 * (size_t)(n))

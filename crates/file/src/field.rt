@@ -21,6 +21,11 @@ pub const BD: u16 = 0x4442;
 
 pub const FT: u16 = 0x5446;
 
+// The bytes of a fault, and where its label stands.
+pub const FAULT: usize = 20;
+
+pub const FAULT_LABEL: usize = 2;
+
 pub fn pair(low: u8, high: u8) -> u16
     ensures { λ r. ⌜ r ≡ low + 256 * high ⌝ }
 {

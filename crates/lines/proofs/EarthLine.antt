@@ -2,7 +2,7 @@
 use mathlib.Core.Bool.{Bool, true, false, cond}
 use mathlib.Core.List.{List, [], _∷_, _++_}
 use mathlib.Core.Option.{Option, none, some}
-use mathlib.Core.Path.{_≡_, refl, ap}
+use mathlib.Core.Path.{_≡_, refl}
 use Prim.Native.Nat.{ℕ, _+_, _≤_}
 use native.Mathlib.Omega.{arith}
 use lib.IntN.{pos}
@@ -10,30 +10,14 @@ use lib.ListN.{length, length-append}
 use Rattle.decimal.specs.Decimal.{decimal, signed, row}
 use Rattle.decimal.proofs.Decimal.{decimal-most}
 use Rattle.paper.specs.declared.Part.{Part}
-use Rattle.paper.specs.declared.Refusal.{Refusal}
-use Rattle.paper.specs.declared.EarthReturn.{EarthReturn}
-use Rattle.paper.specs.declared.EarthReturn.the-variants.{From, Stopped, Refused}
 use Rattle.paper.specs.Bytes.{text}
-use Rattle.paper.specs.Return.{Said, said}
+use Rattle.paper.specs.Return.{Said}
 use Rattle.lines.specs.Lines.{line, refusedText}
 use Rattle.lines.specs.Earth.{earthLine, earthText, earthMost}
 
 pub record-pieces : (words : List ℕ) (place : ℕ) → line words (pos place ∷ []) ≡ words ++ ((0x20 ∷ decimal place) ++ (0x0A ∷ []))
 unfolding line row signed
 record-pieces words place = refl
-
--- ---- by the cases of the answer
-pub of-from : (e : EarthReturn) {r : ℕ} → e ≡ From r → earthText (said e) ≡ line (text "earth return from record") (pos r ∷ [])
-unfolding earthText earthLine said
-of-from e h = ap (λ (x : EarthReturn). earthText (said x)) h
-
-pub of-stopped : (e : EarthReturn) {r : ℕ} → e ≡ Stopped r → earthText (said e) ≡ line (text "none, stopped at record") (pos r ∷ [])
-unfolding earthText earthLine said
-of-stopped e h = ap (λ (x : EarthReturn). earthText (said x)) h
-
-pub of-refused : (e : EarthReturn) {w : Refusal} → e ≡ Refused w → earthText (said e) ≡ refusedText (w .number) (w .place)
-unfolding earthText earthLine said
-of-refused e h = ap (λ (x : EarthReturn). earthText (said x)) h
 
 -- ---- no line is longer
 pub earth-most : (s : Said) → length (earthText s) ≤ earthMost

@@ -34,7 +34,7 @@ module _ (net : List ℕ) (l : Label) {g : Network} (read : g ≡ networkOf net 
       go none e h = never (sym h)
       go (some q) e h = let same : q ≡ why = cc in e ∙ ap some same
 
-  -- and so its head and its nodes are the network's, and the place that of the board
+  -- as many boards as the network has, and so 256 at most
   pub network-boards : g .outcome ≡ Accepted → g .head .boards ≡ length (boardsOf net)
   network-boards taken = ap (λ (x : Network). x .head .boards) (network-kept taken .1) ∙ sym (boards-length net)
 

@@ -4,6 +4,8 @@ ghost use lib.ListN.{length};
 ghost use Rattle.paper.specs.Answer.{verdict, written};
 use answer::answer;
 use ask::ask;
+use file::field::FAULT;
+use file::field::FAULT_LABEL;
 use file::field::label_in;
 use network::read;
 use paper::Answer;
@@ -11,17 +13,12 @@ use paper::Outcome;
 use verdict::accepted;
 use verdict::refused;
 
-// The bytes of a fault, and where its label stands in it.
-const FAULT: usize = 20;
-
-const LABEL: usize = 2;
-
 // The label is looked for while the network is read, so that no table of boards is handed on. Nothing is written until both are accepted: the first look at the buffer is for its length.
 pub fn solve(net: &[u8], flt: &[u8], buffer: &mut [i64]) -> Answer
     ensures { λ r. ⌜ r ≡ verdict (now (net .entry)) (now (flt .entry)) (length (now (buffer .entry))) ⌝ }
     ensures { λ _. ⌜ now (buffer .exit) ≡ written (now (net .entry)) (now (flt .entry)) (now (buffer .entry)) ⌝ }
 {
-    let label = label_in(flt, FAULT, LABEL);
+    let label = label_in(flt, FAULT, FAULT_LABEL);
     let network = read(net, label);
     let outcome = network.outcome;
     if let Outcome::Refused(why) = outcome {

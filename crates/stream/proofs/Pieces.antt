@@ -17,14 +17,12 @@ use Rattle.paper.specs.declared.Part.{Part}
 use Rattle.paper.specs.declared.Answer.{Answer}
 use Rattle.paper.specs.declared.Written.{Written}
 use Rattle.paper.specs.declared.Refusal.{Refusal}
-use Rattle.paper.specs.declared.EarthReturn.{EarthReturn}
-use Rattle.paper.specs.declared.EarthReturn.the-variants.{From, Stopped, Refused}
-use Rattle.paper.specs.Return.{Said, refusedBy, said}
+use Rattle.paper.specs.Return.{Said, refusedBy}
 use Rattle.lemmas.specs.Little.{little}
 use Rattle.decimal.specs.Word.{wordOf}
 use Rattle.decimal.proofs.Stored.{little-length}
 use Rattle.stream.specs.Layout.{threeOf, whoseOf, partOf, foundOf, headOf, elementsOf, bytesOf, writtenOf}
-use Rattle.stream.specs.Said.{shownOf, saidOf, namedOf}
+use Rattle.stream.specs.Said.{shownOf, saidOf}
 
 -- ---- what answers share
 pub three-pieces : (a b c : ℕ) → threeOf a b c ≡ little 4 a ++ (little 4 b ++ little 4 c)
@@ -53,23 +51,10 @@ pub written-pieces : (w : Written) (out : List ℕ) → writtenOf w out ≡ thre
 unfolding writtenOf
 written-pieces w out = refl
 
--- ---- an answer's of `earth`, by its cases
+-- ---- an answer's of `earth`
 pub refused-pieces : (w : Refusal) (shown : List ℕ) → saidOf (refusedBy w) shown ≡ threeOf (w .number) (w .place) 0 ++ (partOf (w .part) ++ shown)
 unfolding saidOf shownOf
 refused-pieces w shown = refl
-
-module _ (e : EarthReturn) (shown : List ℕ) where
-  pub of-from : {r : ℕ} → e ≡ From r → saidOf (said e) shown ≡ namedOf r 1 shown
-  unfolding saidOf shownOf said
-  of-from h = ap (λ (x : EarthReturn). saidOf (said x) shown) h
-
-  pub of-stopped : {r : ℕ} → e ≡ Stopped r → saidOf (said e) shown ≡ namedOf r 0 shown
-  unfolding saidOf shownOf said
-  of-stopped h = ap (λ (x : EarthReturn). saidOf (said x) shown) h
-
-  pub of-refused : {w : Refusal} → e ≡ Refused w → saidOf (said e) shown ≡ saidOf (refusedBy w) shown
-  unfolding said
-  of-refused h = ap (λ (x : EarthReturn). saidOf (said x) shown) h
 
 -- ---- the elements, from the first that is left on
 module _ (zs : List ℤ) where
