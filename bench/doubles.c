@@ -67,7 +67,8 @@ static cx lift_of(const board *b, const fault *f, const sequences *i) {
     return f->kind == 1 ? -w : w;
 }
 
-static void phases(cx *out, int p, int d, const sequences *x) {
+static void phases(cx *out, int p, int whole, const sequences *x) {
+    int d = whole % 12;
     for (int i = 0; i < 3; i++) {
         cx sum = x->s0 + turn((8 * i + 12 - d) % 12) * x->s1 + turn((4 * i + d) % 12) * x->s2;
         out[(p + i) % 3] = turn(8 * p % 12) * sum;

@@ -11,12 +11,6 @@ typedef struct {
     plane s1, s2, s0;
 } sequences;
 
-/* t^0 to t^11, and three more so that t^(n + 3) = j t^n needs no remainder */
-static const int64_t turns[15][4] = {
-    {1, 0, 0, 0}, {0, 1, 0, 0}, {0, 0, 1, 0}, {0, 0, 0, 1}, {-1, 0, 1, 0}, {0, -1, 0, 1}, {-1, 0, 0, 0}, {0, -1, 0, 0},
-    {0, 0, -1, 0}, {0, 0, 0, -1}, {1, 0, -1, 0}, {0, 1, 0, -1}, {1, 0, 0, 0}, {0, 1, 0, 0}, {0, 0, 1, 0},
-};
-
 static plane of(ohms z) {
     return (plane){z.r, z.x};
 }
@@ -82,38 +76,42 @@ static plane lift_of(const board *b, const fault *f, int64_t D, const sequences 
     return f->kind == 1 ? minus(w) : w;
 }
 
-/* x0 + x1 t + x2 t^2 + x3 t^3 */
-typedef struct {
-    int64_t x[4];
-} number;
-
-static number turned(int n, plane z) {
-    number t;
-    for (int c = 0; c < 4; c++)
-        t.x[c] = z.r * turns[n][c] + z.x * turns[n + 3][c];
-    return t;
+/* j^n z */
+static plane quarters(int n, plane z) {
+    if (n & 1)
+        z = (plane){-z.x, z.r};
+    return n & 2 ? minus(z) : z;
 }
 
-/* t^4 and t^8 times a: t times a is (-x3, x0, x1 + x3, x2) */
-static number by_4(number a) {
-    return (number){{-a.x[0] - a.x[2], -a.x[1] - a.x[3], a.x[0], a.x[1]}};
+/* c0 + a c1 + a^2 c2, a being t^4: as a is t^2 - 1, a^2 is -t^2, ja is -t and ja^2 is t - t^3, all four numbers are differences */
+static void put_thirds(int64_t *out, plane c0, plane c1, plane c2) {
+    out[0] = c0.r - c1.r;
+    out[1] = c2.x - c1.x;
+    out[2] = c1.r - c2.r;
+    out[3] = c0.x - c2.x;
 }
 
-static number by_8(number a) {
-    return (number){{a.x[2], a.x[3], -a.x[0] - a.x[2], -a.x[1] - a.x[3]}};
-}
-
-static void put_sum(int64_t *out, number a, number b, number c) {
-    for (int k = 0; k < 4; k++)
-        out[k] = a.x[k] + b.x[k] + c.x[k];
-}
-
-/* What phases a, b, c show, p the odd one, the board turned by d against the faulted one (0 to 11): each sequence is turned once, and t^8 and t^4 need no product. */
+/* What phases a, b, c show, p the odd one, the board turned by d against the faulted one. A turn is quarters, which make R + jX of R + jX, and thirds, which only say which phase shows what. */
 static void phases(int64_t *out, int p, int d, const sequences *x) {
-    number y0 = turned(8 * p % 12, x->s0), y1 = turned((8 * p + 12 - d) % 12, x->s1), y2 = turned((8 * p + d) % 12, x->s2);
-    put_sum(out + 4 * p, y0, y1, y2);
-    put_sum(out + 4 * ((p + 1) % 3), y0, by_8(y1), by_4(y2));
-    put_sum(out + 4 * ((p + 2) % 3), y0, by_4(y1), by_8(y2));
+    plane u = x->s0, v = quarters(d, x->s1), w = quarters(-d, x->s2), all = add(u, add(v, w));
+    int odd = (p + 2 * d) % 3, next = odd == 2 ? 0 : odd + 1, last = next == 2 ? 0 : next + 1;
+    int64_t *first = out + 4 * odd, *second = out + 4 * next, *third = out + 4 * last;
+    switch (p) {
+    case 0:
+        put_thirds(first, all, nil, nil);
+        put_thirds(second, u, w, v);
+        put_thirds(third, u, v, w);
+        break;
+    case 1: /* all times a^2 */
+        put_thirds(first, nil, nil, all);
+        put_thirds(second, w, v, u);
+        put_thirds(third, v, w, u);
+        break;
+    default: /* all times a */
+        put_thirds(first, nil, all, nil);
+        put_thirds(second, v, u, w);
+        put_thirds(third, w, u, v);
+    }
 }
 
 static void put_board(int64_t *out, const standing *b, int64_t D, const sequences *i, plane lift, int p) {

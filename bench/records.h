@@ -149,7 +149,7 @@ static inline shared share(const board *b, int on, const shared *shares, uint16_
     return s;
 }
 
-/* What board j has to do with the faulted one: what they share, its turn against the other's (0 to 11), whether its record lies on the other's chain, whether both are in one part, and whether that has an earth return. */
+/* What board j has to do with the faulted one: what they share, its turn against the other's (whole rounds left in), whether its record lies on the other's chain, whether both are in one part, and whether that has an earth return. */
 typedef struct {
     shared s;
     int d, on, joined, earth;
@@ -159,6 +159,6 @@ static inline standing stands(const network *w, const fault *f, const uint8_t *o
     const board *at = &w->boards[f->k - 1], *b = &w->boards[j];
     int joined = b->head == at->head;
     shares[j] = share(b, on[j], shares, at->head);
-    return (standing){shares[j], (b->turn % 12 + 12 - at->turn % 12) % 12, on[j], joined, joined && at->earthed};
+    return (standing){shares[j], b->turn + 11 * at->turn, on[j], joined, joined && at->earthed};
 }
 #endif

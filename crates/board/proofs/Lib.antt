@@ -1,5 +1,5 @@
 mod Small
 mod Nothing
+mod Rows
 mod Sums
-mod Twelve
 mod RuledOut

@@ -1,79 +1,134 @@
--- The three phases as sums of the turned sequences. Assumes nothing.
+-- What the phases show, as sums over 1, a and a² of sequences that only quarters have turned. Assumes nothing.
 use mathlib.Core.Path.{_≡_, sym, ap, ap₂, _∙_}
-use Prim.Native.Nat.{ℕ, _+_, _*_}
+use mathlib.Core.List.{List, [], _∷_}
+use Prim.Native.Nat.{ℕ, _+_, _*_, _/_, _%_, _≤_}
 use native.Mathlib.Omega.{arith}
-use Rattle.lemmas.proofs.Solver.{con, _⊕_, _⊗_, _⊖_}
+use lib.IntN.{ℤ}
+use lib.ListN.{length}
+use Rattle.lemmas.proofs.Solver.{con, _⊕_, _⊗_}
 use Rattle.lemmas.proofs.Solve.{solve}
 use Rattle.turn.specs.declared.Num.{Num}
-use Rattle.turn.specs.Number.{_+N_, _-N_, powerN, timesT, turnN}
-use Rattle.turn.specs.Bounds.{Within}
+use Rattle.turn.specs.Number.{_+N_, powerN, timesT, turnN}
 use Rattle.turn.proofs.TRing.{Tring}
-use Rattle.turn.proofs.Powers.{turn-add}
+use Rattle.turn.proofs.Powers.{turn-zero, turn-add, turn-same}
 use Rattle.paper.specs.declared.Seq.{Seq}
-use Rattle.paper.specs.Fault.{seq}
-use Rattle.paper.specs.Phase.{shows}
-use Rattle.paper.specs.Bounds.{Plane, EachSeq, mostW}
-use Rattle.fits.proofs.Plane.{plane-turn}
-use Rattle.fits.proofs.Sizes.{shows-turned}
-use Rattle.fits.proofs.Needs.{within-is}
+use Rattle.paper.specs.Phase.{four, shows, phase, phases}
+use Rattle.paper.specs.Answer.{flat}
+use Rattle.board.specs.Put.{shownAt, laid}
+use Rattle.board.proofs.Rows.{all-shown}
 
--- a² v + a w without a product: a² is -t² and a is t² - 1
-pub onward-is : (v w : Num) → turnN 2 (w -N v) -N w ≡ turnN 8 v +N turnN 4 w
+-- ---- t^(8p) (u + t^(8i) v + t^(4i) w), as the code adds it up for each p and i
+abbrev pub sum : ℕ → Num → Num → Num → ℕ → Num
+sum p u v w i = turnN (8 * p) (u +N turnN (8 * i) v +N turnN (4 * i) w)
+
+abbrev pub over-thirds : Num → Num → Num → Num
+over-thirds c0 c1 c2 = c0 +N (turnN 4 c1 +N turnN 8 c2)
+
+pub odd-0 : (u v w : Num) → u +N (v +N w) ≡ sum 0 u v w 0
 unfolding powerN timesT
-onward-is = solve Tring 2 (λ v w. con (powerN 2) ⊗ (w ⊖ v) ⊖ w) (λ v w. con (powerN 8) ⊗ v ⊕ con (powerN 4) ⊗ w) tt
+odd-0 = solve Tring 3 (λ u v w. u ⊕ (v ⊕ w)) (λ u v w. con (powerN 0) ⊗ (u ⊕ con (powerN 0) ⊗ v ⊕ con (powerN 0) ⊗ w)) tt
+
+pub next-0 : (u v w : Num) → over-thirds u w v ≡ sum 0 u v w 1
+unfolding powerN timesT
+next-0 = solve Tring 3 (λ u v w. u ⊕ (con (powerN 4) ⊗ w ⊕ con (powerN 8) ⊗ v)) (λ u v w. con (powerN 0) ⊗ (u ⊕ con (powerN 8) ⊗ v ⊕ con (powerN 4) ⊗ w)) tt
+
+pub last-0 : (u v w : Num) → over-thirds u v w ≡ sum 0 u v w 2
+unfolding powerN timesT
+last-0 = solve Tring 3 (λ u v w. u ⊕ (con (powerN 4) ⊗ v ⊕ con (powerN 8) ⊗ w)) (λ u v w. con (powerN 0) ⊗ (u ⊕ con (powerN 16) ⊗ v ⊕ con (powerN 8) ⊗ w)) tt
+
+pub odd-1 : (u v w : Num) → turnN 8 (u +N (v +N w)) ≡ sum 1 u v w 0
+unfolding powerN timesT
+odd-1 = solve Tring 3 (λ u v w. con (powerN 8) ⊗ (u ⊕ (v ⊕ w))) (λ u v w. con (powerN 8) ⊗ (u ⊕ con (powerN 0) ⊗ v ⊕ con (powerN 0) ⊗ w)) tt
+
+pub next-1 : (u v w : Num) → over-thirds w v u ≡ sum 1 u v w 1
+unfolding powerN timesT
+next-1 = solve Tring 3 (λ u v w. w ⊕ (con (powerN 4) ⊗ v ⊕ con (powerN 8) ⊗ u)) (λ u v w. con (powerN 8) ⊗ (u ⊕ con (powerN 8) ⊗ v ⊕ con (powerN 4) ⊗ w)) tt
+
+pub last-1 : (u v w : Num) → over-thirds v w u ≡ sum 1 u v w 2
+unfolding powerN timesT
+last-1 = solve Tring 3 (λ u v w. v ⊕ (con (powerN 4) ⊗ w ⊕ con (powerN 8) ⊗ u)) (λ u v w. con (powerN 8) ⊗ (u ⊕ con (powerN 16) ⊗ v ⊕ con (powerN 8) ⊗ w)) tt
+
+pub odd-2 : (u v w : Num) → turnN 4 (u +N (v +N w)) ≡ sum 2 u v w 0
+unfolding powerN timesT
+odd-2 = solve Tring 3 (λ u v w. con (powerN 4) ⊗ (u ⊕ (v ⊕ w))) (λ u v w. con (powerN 16) ⊗ (u ⊕ con (powerN 0) ⊗ v ⊕ con (powerN 0) ⊗ w)) tt
+
+pub next-2 : (u v w : Num) → over-thirds v u w ≡ sum 2 u v w 1
+unfolding powerN timesT
+next-2 = solve Tring 3 (λ u v w. v ⊕ (con (powerN 4) ⊗ u ⊕ con (powerN 8) ⊗ w)) (λ u v w. con (powerN 16) ⊗ (u ⊕ con (powerN 8) ⊗ v ⊕ con (powerN 4) ⊗ w)) tt
+
+pub last-2 : (u v w : Num) → over-thirds w u v ≡ sum 2 u v w 2
+unfolding powerN timesT
+last-2 = solve Tring 3 (λ u v w. w ⊕ (con (powerN 4) ⊗ u ⊕ con (powerN 8) ⊗ v)) (λ u v w. con (powerN 16) ⊗ (u ⊕ con (powerN 16) ⊗ v ⊕ con (powerN 8) ⊗ w)) tt
+
+-- three phases put one after the other are laid, where p is known to be q
+module _ (p q : ℕ) (e : p ≡ q) (f : ℕ) (h : f ≤ 2) (u v w : Num) (xs : List ℤ) where
+  pub puts : {g k : ℕ} {a b c : Num} {l m n : List ℤ} → g ≡ (f + 1) % 3 → k ≡ (g + 1) % 3 → l ≡ shownAt f a xs → m ≡ shownAt g b l → n ≡ shownAt k c m
+      → a ≡ sum q u v w 0 → b ≡ sum q u v w 1 → c ≡ sum q u v w 2 → n ≡ laid p f u v w xs
+  unfolding laid
+  puts {g} {k} {a} {b} {c} eg ek ea eb ec a0 b1 c2 =
+      let f0 : f ≡ (f + 0) % 3 = omega arith in
+      let f2 : k ≡ (f + 2) % 3 = omega arith in
+      ec
+      ∙ ap (shownAt k c) (eb ∙ ap (shownAt g b) ea)
+      ∙ (λ i. shownAt (f2 i) (c2 i) (shownAt (eg i) (b1 i) (shownAt (f0 i) (a0 i) xs)))
+      ∙ ap (λ (m : ℕ). shownAt ((f + 2) % 3) (sum m u v w 2) (shownAt ((f + 1) % 3) (sum m u v w 1) (shownAt ((f + 0) % 3) (sum m u v w 0) xs))) (sym e)
+
+-- ---- a turn is quarters back and thirds forward: thirds in d only say which phase shows what
+-- which phase on from the odd one that is
+past : (p i n : ℕ) → (((p + n) % 3 + i) % 3 + 2 * p) % 3 ≡ (n + i) % 3
+past p i n = omega arith
+
+rounds : (q n : ℕ) → (12 * q + n) % 12 ≡ n % 12
+rounds q n = omega arith
+
+-- where n + i is k past whole threes, i thirds forward and n quarters back are k thirds and n turns
+thirds-back : (q k i n : ℕ) → n + i ≡ 3 * q + k → (8 * i + 9 * n) % 12 ≡ (8 * k + n) % 12
+thirds-back q k i n e = let h : 8 * i + 9 * n ≡ 12 * (2 * q) + (8 * k + n) = omega (arith, e) in ap (λ (m : ℕ). m % 12) h ∙ rounds (2 * q) (8 * k + n)
+
+thirds-forth : (q k i sj sk : ℕ) → 11 * sj + sk + i ≡ 3 * q + k → (4 * i + 9 * (sj + 11 * sk)) % 12 ≡ (4 * k + (sj + 11 * sk)) % 12
+thirds-forth q k i sj sk e =
+    let h : 12 * (3 * sj) + (4 * i + 9 * (sj + 11 * sk)) ≡ 12 * (q + 7 * sk) + (4 * k + (sj + 11 * sk)) = omega (arith, e) in
+    sym (rounds (3 * sj) (4 * i + 9 * (sj + 11 * sk))) ∙ ap (λ (m : ℕ). m % 12) h ∙ rounds (q + 7 * sk) (4 * k + (sj + 11 * sk))
 
 module _ (p sj sk : ℕ) (X : Seq) where
-  -- the sequences as the odd phase shows them
-  abbrev pub zeroth : Num
-  zeroth = turnN (8 * p) (X .s0)
+  abbrev back : ℕ
+  back = 11 * sj + sk
 
-  abbrev pub forward : Num
-  forward = turnN (8 * p + 11 * sj + sk) (X .s1)
+  abbrev forth : ℕ
+  forth = sj + 11 * sk
 
-  abbrev pub backward : Num
-  backward = turnN (8 * p + sj + 11 * sk) (X .s2)
+  abbrev from : ℕ
+  from = (p + back) % 3
 
-  -- they are no further from 0
-  pub turned-within : {r : Seq} → r ≡ seq forward backward zeroth → EachSeq (Plane mostW) X → EachSeq (Within mostW) r
-  turned-within e x =
-      record {
-        e1 = within-is (λ i. e i .s1) (plane-turn (8 * p + 11 * sj + sk) (x .e1));
-        e2 = within-is (λ i. e i .s2) (plane-turn (8 * p + sj + 11 * sk) (x .e2));
-        e0 = within-is (λ i. e i .s0) (plane-turn (8 * p) (x .e0));
-      }
+  named : (i : ℕ) → sum p (X .s0) (turnN (9 * back) (X .s1)) (turnN (9 * forth) (X .s2)) i ≡ phase p sj sk X ((from + i) % 3)
+  unfolding phase shows
+  named i =
+      let k : ℕ = ((from + i) % 3 + 2 * p) % 3 in
+      let q : ℕ = (back + i) / 3 in
+      let k-is : k ≡ (back + i) % 3 = past p i back in
+      let e : back + i ≡ 3 * q + k = omega (arith, k-is) in
+      let a : 8 * k + back ≡ 8 * k + 11 * sj + sk = omega arith in
+      let b : 4 * k + forth ≡ 4 * k + sj + 11 * sk = omega arith in
+      ap₂ (λ (v w : Num). turnN (8 * p) (X .s0 +N v +N w)) (sym (turn-add (8 * i) (9 * back) (X .s1)) ∙ turn-same (8 * i + 9 * back) (8 * k + 11 * sj + sk) (X .s1) (thirds-back q k i back e ∙ ap (λ (n : ℕ). n % 12) a))
+      (sym (turn-add (4 * i) (9 * forth) (X .s2)) ∙ turn-same (4 * i + 9 * forth) (4 * k + sj + 11 * sk) (X .s2) (thirds-forth q k i sj sk e ∙ ap (λ (n : ℕ). n % 12) b))
 
-  -- each phase on from it turns the positive sequence by 8 more, and the negative by 4
-  apart : (i : ℕ) → shows p sj sk X i ≡ zeroth +N turnN (8 * i) forward +N turnN (4 * i) backward
-  apart i =
-      let e : 8 * p + (8 * i + 11 * sj + sk) ≡ 8 * i + (8 * p + 11 * sj + sk) = omega arith in
-      let f : 8 * p + (4 * i + sj + 11 * sk) ≡ 4 * i + (8 * p + sj + 11 * sk) = omega arith in
-      shows-turned p sj sk X i
-      ∙ ap₂ (λ a b. zeroth +N a +N b) (ap (λ n. turnN n (X .s1)) e ∙ turn-add (8 * i) (8 * p + 11 * sj + sk) (X .s1))
-      (ap (λ n. turnN n (X .s2)) f ∙ turn-add (4 * i) (8 * p + sj + 11 * sk) (X .s2))
+  pub laid-shows : {f : ℕ} {u v w : Num} (xs : List ℤ) → length xs ≡ 12 → f ≡ from → u ≡ turnN (9 * 0) (X .s0) → v ≡ turnN (9 * back) (X .s1) → w ≡ turnN (9 * forth) (X .s2)
+      → laid p f u v w xs ≡ flat (phases p sj sk X)
+  unfolding laid phases
+  laid-shows xs e ef eu ev ew =
+      (λ i. laid p (ef i) ((eu ∙ turn-zero (X .s0)) i) (ev i) (ew i) xs)
+      ∙ (λ i. shownAt ((from + 2) % 3) (named 2 i) (shownAt ((from + 1) % 3) (named 1 i) (shownAt ((from + 0) % 3) (named 0 i) xs)))
+      ∙ all-shown (phase p sj sk X) from xs (omega arith) e
 
-  pub odd-is : zeroth +N (forward +N backward) ≡ shows p sj sk X 0
-  unfolding powerN timesT
-  odd-is = solve Tring 3 (λ u v w. u ⊕ (v ⊕ w)) (λ u v w. u ⊕ con (powerN 0) ⊗ v ⊕ con (powerN 0) ⊗ w) tt zeroth forward backward ∙ sym (apart 0)
+-- ---- at the faulted board itself nothing is turned: s turns forward and s back
+module _ (p s : ℕ) (X : Seq) where
+  still : (i : ℕ) → shows p s s X i ≡ shows p 0 0 X i
+  unfolding shows
+  still i =
+      let e : (8 * i + 11 * s + s) % 12 ≡ (8 * i + 11 * 0 + 0) % 12 = omega arith in
+      let d : (4 * i + s + 11 * s) % 12 ≡ (4 * i + 0 + 11 * 0) % 12 = omega arith in
+      ap₂ (λ (v w : Num). turnN (8 * p) (X .s0 +N v +N w)) (turn-same (8 * i + 11 * s + s) (8 * i + 11 * 0 + 0) (X .s1) e) (turn-same (4 * i + s + 11 * s) (4 * i + 0 + 11 * 0) (X .s2) d)
 
-  pub next-is : zeroth +N (turnN 8 forward +N turnN 4 backward) ≡ shows p sj sk X 1
-  unfolding powerN timesT
-  next-is =
-      solve Tring 3 (λ u v w. u ⊕ (con (powerN 8) ⊗ v ⊕ con (powerN 4) ⊗ w)) (λ u v w. u ⊕ con (powerN 8) ⊗ v ⊕ con (powerN 4) ⊗ w) tt zeroth forward backward ∙ sym (apart 1)
-
-  pub last-is : zeroth -N (forward +N backward) -N (turnN 8 forward +N turnN 4 backward) ≡ shows p sj sk X 2
-  unfolding powerN timesT
-  last-is =
-      solve Tring 3 (λ u v w. u ⊖ (v ⊕ w) ⊖ (con (powerN 8) ⊗ v ⊕ con (powerN 4) ⊗ w)) (λ u v w. u ⊕ con (powerN 16) ⊗ v ⊕ con (powerN 8) ⊗ w) tt zeroth forward backward
-      ∙ sym (apart 2)
-
-  -- what the code adds up, of the turned sequences r, is what is shown
-  module _ {r : Seq} (e : r ≡ seq forward backward zeroth) where
-    pub odd-sum : {both odd : Num} → both ≡ r .s1 +N r .s2 → odd ≡ r .s0 +N both → odd ≡ shows p sj sk X 0
-    odd-sum b h = h ∙ ap (λ (n : Num). r .s0 +N n) b ∙ (λ i. e i .s0 +N (e i .s1 +N e i .s2)) ∙ odd-is
-
-    pub next-sum : {q next : Num} → q ≡ turnN 8 (r .s1) +N turnN 4 (r .s2) → next ≡ r .s0 +N q → next ≡ shows p sj sk X 1
-    next-sum o h = h ∙ ap (λ (n : Num). r .s0 +N n) o ∙ (λ i. e i .s0 +N (turnN 8 (e i .s1) +N turnN 4 (e i .s2))) ∙ next-is
-
-    pub last-sum : {both q rest last : Num} → both ≡ r .s1 +N r .s2 → q ≡ turnN 8 (r .s1) +N turnN 4 (r .s2) → rest ≡ r .s0 -N both → last ≡ rest -N q → last ≡ shows p sj sk X 2
-    last-sum {q = q} b o h k =
-        k ∙ (λ i. h i -N q) ∙ ap₂ (λ (m n : Num). r .s0 -N m -N n) b o ∙ (λ i. e i .s0 -N (e i .s1 +N e i .s2) -N (turnN 8 (e i .s1) +N turnN 4 (e i .s2))) ∙ last-is
+  pub same-turn : phases p s s X ≡ phases p 0 0 X
+  unfolding phases phase
+  same-turn = λ j. four (still ((0 + 2 * p) % 3) j) ∷ four (still ((1 + 2 * p) % 3) j) ∷ four (still ((2 + 2 * p) % 3) j) ∷ []

@@ -3,8 +3,7 @@ ghost use mathlib.Core.Path.{_≡_};
 ghost use lib.ListN.{length};
 ghost use Rattle.paper.specs.Bounds.{AtMost};
 ghost use Rattle.board.specs.Faulted.{FaultSmall, faultedFrom, topOf};
-use crate::phases::phases;
-use crate::put::thirteen;
+use crate::shown;
 use fault::short;
 use node::Node;
 use paper::Fault;
@@ -47,12 +46,13 @@ pub fn fault_at(at: Node, f: Fault) -> Faulted
     }
 }
 
-// D and the fault's currents, over the first thirteen places.
+// D and the fault's currents, over the first thirteen places. They are shown at the faulted board itself.
 pub fn top(out: &mut [i64], f: Faulted)
     requires { ⌜ (length (now out) ≡ 13) × (FaultSmall f) ⌝ }
     ensures { λ _. ⌜ now (out .exit) ≡ topOf f ⌝ }
 {
     let i = f.i;
-    let c = phases(f.phase as usize, 0, 0, i);
-    thirteen(out, f.d, c);
+    let d = f.d;
+    out[0] = d;
+    shown(&mut out[1..13], f, f.turn, i);
 }

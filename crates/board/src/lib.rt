@@ -9,12 +9,13 @@ ghost use Prim.Native.Nat.{_≤_};
 ghost use lib.ListN.{length};
 ghost use Rattle.paper.specs.Bounds.{Plane, EachSeq, mostW};
 ghost use Rattle.paper.specs.Phase.{onlyIf, voltageOf, phases};
+ghost use Rattle.paper.specs.Answer.{flat};
 ghost use Rattle.chain.specs.Carried.{carriedOf};
 ghost use Rattle.board.specs.Faulted.{FaultSmall};
 ghost use Rattle.board.specs.Numbers.{ShareSmall, numbersOf};
 use crate::front::Faulted;
 use crate::phases::phases;
-use crate::put::both;
+use crate::put::nothing;
 use chain::carried::carried;
 use chain::carried::only_if;
 use chain::share::Shared;
@@ -45,36 +46,30 @@ fn passed(f: Faulted, on: bool, here: bool) -> Seq
     carried(on, earth, i)
 }
 
-// The phases that a board of some turn shows.
-fn shown(f: Faulted, turn: u16, x: Seq) -> [[i64; 4]; 3]
+// What a board of some turn shows, over a part of twelve.
+pub(crate) fn shown(out: &mut [i64], f: Faulted, turn: u16, x: Seq)
+    requires { ⌜ length (now out) ≡ 12 ⌝ }
     requires { ⌜ (f .phase ≤ 2) × (f .turn ≤ 2816) × (turn ≤ 2816) ⌝ }
     requires { ⌜ EachSeq (Plane mostW) x ⌝ }
-    ensures { λ r. ⌜ r ≡ phases (f .phase) turn (f .turn) x ⌝ }
+    ensures { λ _. ⌜ now (out .exit) ≡ flat (phases (f .phase) turn (f .turn) x) ⌝ }
 {
-    phases(f.phase as usize, turn as usize, f.turn as usize, x)
+    phases(out, f.phase as usize, turn as usize, f.turn as usize, x);
 }
 
-// The phases of a record's currents. Off the chain it carries nothing, so there is nothing to turn: most records of a large network.
-fn flowing(f: Faulted, on: bool, here: bool, turn: u16) -> [[i64; 4]; 3]
-    requires { ⌜ (FaultSmall f) × (turn ≤ 2816) ⌝ }
-    ensures { λ r. ⌜ r ≡ phases (f .phase) turn (f .turn) (carriedOf on (on && here && f .earthed) (f .i)) ⌝ }
-{
-    if !on {
-        let none: [i64; 4] = [0, 0, 0, 0];
-        return [none, none, none];
-    }
-    let i = passed(f, on, here);
-    shown(f, turn, i)
-}
-
-// The 24 numbers of a board, over its part of the buffer.
+// The 24 numbers of a board, over its part of the buffer. Off the chain its record carries nothing, so there is nothing to turn: most records of a large network.
+// Voltages and currents have one place on the stack, one after the other.
 pub fn board(out: &mut [i64], f: Faulted, on: bool, node: Node, s: Shared)
     requires { ⌜ (length (now out) ≡ 24) × (FaultSmall f) × (ShareSmall s) × (node .turn ≤ 2816) ⌝ }
     ensures { λ _. ⌜ now (out .exit) ≡ numbersOf f on node s ⌝ }
 {
     let here = node.head == f.head;
-    let w = left(f, here, s);
-    let v = shown(f, node.turn, w);
-    let c = flowing(f, on, here, node.turn);
-    both(out, v, c);
+    let turn = node.turn;
+    let mut x = left(f, here, s);
+    shown(&mut out[0..12], f, turn, x);
+    if on {
+        x = passed(f, on, here);
+        shown(&mut out[12..24], f, turn, x);
+    } else {
+        nothing(&mut out[12..24]);
+    }
 }

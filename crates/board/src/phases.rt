@@ -1,88 +1,96 @@
-// What the three phases of a board show.
+// What the three phases of a board show, with d its turn against the faulted board's: phase (p + i) mod 3 shows t^(8p) (X0 + t^(8i - d) X1 + t^(4i + d) X2).
+// A turn is quarters back and thirds forward. Quarters make R + jX of R + jX; thirds in d say which phase shows what, and nothing is turned by them.
+ghost use mathlib.Core.Bool.{cond};
 ghost use mathlib.Core.Path.{_≡_};
-ghost use Prim.Native.Nat.{_+_, _*_, _≤_};
+ghost use Prim.Native.Nat.{_+_, _*_, _%_, _≤_};
+ghost use lib.ListN.{length};
 ghost use Rattle.turn.specs.Number.{_+N_, turnN};
 ghost use Rattle.turn.specs.Bounds.{Within};
+ghost use Rattle.phasor.specs.Bounds.{Addable};
 ghost use Rattle.paper.specs.Bounds.{Plane, EachSeq, mostW};
-ghost use Rattle.paper.specs.Fault.{seq};
-ghost use Rattle.paper.specs.Phase.{four, shows, phases};
+ghost use Rattle.paper.specs.Phase.{phases};
+ghost use Rattle.paper.specs.Answer.{flat};
+ghost use Rattle.board.specs.Put.{shownAt, laid};
+use crate::put::phase;
 use paper::Seq;
 use phasor::sum::add;
-use phasor::sum::sixth;
-use phasor::sum::sub;
 use phasor::turns::turn;
 use turn::Num;
 
-// What is shown from the odd phase on.
-struct Shown {
-    odd: Num,
-    next: Num,
-    last: Num,
+fn turn_if(on: bool, a: Num, n: usize) -> Num
+    requires { ⌜ Addable a ⌝ }
+    ensures { λ r. ⌜ r ≡ cond on (turnN n a) a ⌝ }
+{
+    if on { turn(a, n) } else { a }
 }
 
-// Each sequence as the odd phase shows it: the only turns by the table. A turn is at most 256 clocks of 11.
-fn turned(p: usize, sj: usize, sk: usize, x: Seq) -> Seq
+// n quarters of a turn back. R + jX is taken apart and put together so that the compiler knows the other two coordinates to be 0, and leaves out what is done with them.
+fn quarters(a: Num, n: usize) -> Num
+    requires { ⌜ Plane mostW a ⌝ }
+    ensures { λ r. ⌜ r ≡ turnN (9 * n) a ⌝ }
+{
+    let z = Num::complex(a.x0, a.x3);
+    let b = turn_if(n % 2 == 1, z, 9);
+    turn_if(n / 2 % 2 == 1, b, 6)
+}
+
+// c0 + a c1 + a² c2, over the part of phase ph.
+fn thirds(out: &mut [i64], ph: usize, c0: Num, c1: Num, c2: Num)
+    requires { ⌜ (length (now out) ≡ 12) × (ph ≤ 2) ⌝ }
+    requires { ⌜ Within mostW c0 × Within mostW c1 × Within mostW c2 ⌝ }
+    ensures { λ _. ⌜ now (out .exit) ≡ shownAt ph (c0 +N (turnN 4 c1 +N turnN 8 c2)) (now (out .entry)) ⌝ }
+{
+    let n = add(c0, add(turn(c1, 4), turn(c2, 8)));
+    phase(out, ph, n);
+}
+
+// The phase behind ph.
+fn after(ph: usize) -> usize
+    requires { ⌜ ph ≤ 2 ⌝ }
+    ensures { λ r. ⌜ r ≡ (ph + 1) % 3 ⌝ }
+{
+    if ph == 2 { 0 } else { ph + 1 }
+}
+
+// From phase f on, what is shown of u, v and w, turned by t^(8p): each stands over 1, a or a².
+fn three(out: &mut [i64], p: usize, f: usize, u: Num, v: Num, w: Num)
+    requires { ⌜ (length (now out) ≡ 12) × (p ≤ 2) × (f ≤ 2) ⌝ }
+    requires { ⌜ Within mostW u × Within mostW v × Within mostW w ⌝ }
+    ensures { λ _. ⌜ now (out .exit) ≡ laid p f u v w (now (out .entry)) ⌝ }
+{
+    let g = after(f);
+    let h = after(g);
+    let all = add(u, add(v, w));
+    if p == 0 {
+        phase(out, f, all);
+        thirds(out, g, u, w, v);
+        thirds(out, h, u, v, w);
+    } else if p == 1 {
+        phase(out, f, turn(all, 8));
+        thirds(out, g, w, v, u);
+        thirds(out, h, v, w, u);
+    } else {
+        phase(out, f, turn(all, 4));
+        thirds(out, g, v, u, w);
+        thirds(out, h, w, u, v);
+    }
+}
+
+// A turn is at most 256 clocks of 11.
+pub(crate) fn phases(out: &mut [i64], p: usize, sj: usize, sk: usize, x: Seq)
+    requires { ⌜ length (now out) ≡ 12 ⌝ }
     requires { ⌜ (p ≤ 2) × (sj ≤ 2816) × (sk ≤ 2816) ⌝ }
     requires { ⌜ EachSeq (Plane mostW) x ⌝ }
-    ensures { λ r. ⌜ r ≡ seq (turnN (8 * p + 11 * sj + sk) (x .s1)) (turnN (8 * p + sj + 11 * sk) (x .s2)) (turnN (8 * p) (x .s0)) ⌝ }
+    ensures { λ _. ⌜ now (out .exit) ≡ flat (phases p sj sk x) ⌝ }
 {
-    let all = 8 * p;
     let x1 = x.s1;
     let x2 = x.s2;
     let x0 = x.s0;
-    let s1 = turn(x1, all + 11 * sj + sk);
-    let s2 = turn(x2, all + sj + 11 * sk);
-    let s0 = turn(x0, all);
-    Seq { s1, s2, s0 }
-}
-
-// What the next phase shows of v and w, a² v + a w. As a² is -t² and a is t² - 1, that is t² (w - v) - w: no product.
-fn onward(v: Num, w: Num) -> Num
-    requires { ⌜ Within mostW v × Within mostW w ⌝ }
-    ensures { λ r. ⌜ r ≡ turnN 8 v +N turnN 4 w ⌝ }
-{
-    sub(sixth(sub(w, v)), w)
-}
-
-// As 1 + a + a² is 0, the last phase is what the other two leave.
-fn three(p: usize, sj: usize, sk: usize, x: Seq) -> Shown
-    requires { ⌜ (p ≤ 2) × (sj ≤ 2816) × (sk ≤ 2816) ⌝ }
-    requires { ⌜ EachSeq (Plane mostW) x ⌝ }
-    ensures { λ r. ⌜ (r .odd ≡ shows p sj sk x 0) × (r .next ≡ shows p sj sk x 1) × (r .last ≡ shows p sj sk x 2) ⌝ }
-{
-    let s = turned(p, sj, sk, x);
-    let u = s.s0;
-    let v = s.s1;
-    let w = s.s2;
-    let both = add(v, w);
-    let q = onward(v, w);
-    let odd = add(u, both);
-    let next = add(u, q);
-    let last = sub(sub(u, both), q);
-    Shown { odd, next, last }
-}
-
-fn four(n: Num) -> [i64; 4]
-    ensures { λ r. ⌜ r ≡ four n ⌝ }
-{
-    [n.x0, n.x1, n.x2, n.x3]
-}
-
-// Phases a, b and c: phase ph is the i-th from the odd one for i = (ph + 2p) mod 3.
-pub(crate) fn phases(p: usize, sj: usize, sk: usize, x: Seq) -> [[i64; 4]; 3]
-    requires { ⌜ (p ≤ 2) × (sj ≤ 2816) × (sk ≤ 2816) ⌝ }
-    requires { ⌜ EachSeq (Plane mostW) x ⌝ }
-    ensures { λ r. ⌜ r ≡ phases p sj sk x ⌝ }
-{
-    let t = three(p, sj, sk, x);
-    let odd = four(t.odd);
-    let next = four(t.next);
-    let last = four(t.last);
-    if p == 0 {
-        [odd, next, last]
-    } else if p == 1 {
-        [last, odd, next]
-    } else {
-        [next, last, odd]
-    }
+    let back = 11 * sj + sk;
+    let forth = sj + 11 * sk;
+    let u = quarters(x0, 0);
+    let v = quarters(x1, back);
+    let w = quarters(x2, forth);
+    let f = (p + back) % 3;
+    three(out, p, f, u, v, w);
 }

@@ -1,36 +1,35 @@
 // Numbers put into a lent part of the answer buffer.
 ghost use mathlib.Core.Path.{_≡_};
-ghost use mathlib.Core.List.{_∷_, _++_};
-ghost use lib.ListN.{length};
-ghost use Rattle.board.specs.Put.{twelveOf};
+ghost use Prim.Native.Nat.{_≤_};
+ghost use lib.IntN.{pos};
+ghost use lib.ListN.{length, replicate};
+ghost use Rattle.board.specs.Put.{shownAt};
+use turn::Num;
 
-// Three phases, over a part of twelve.
-pub(crate) fn three(out: &mut [i64], v: [[i64; 4]; 3])
+// A number over the places of a phase, in a part of three.
+pub(crate) fn phase(out: &mut [i64], ph: usize, n: Num)
+    requires { ⌜ (length (now out) ≡ 12) × (ph ≤ 2) ⌝ }
+    ensures { λ _. ⌜ now (out .exit) ≡ shownAt ph n (now (out .entry)) ⌝ }
+{
+    let x0 = n.x0;
+    let x1 = n.x1;
+    let x2 = n.x2;
+    let x3 = n.x3;
+    let a = 4 * ph;
+    out[a] = x0;
+    out[a + 1] = x1;
+    out[a + 2] = x2;
+    out[a + 3] = x3;
+}
+
+// Three phases that show nothing.
+pub(crate) fn nothing(out: &mut [i64])
     requires { ⌜ length (now out) ≡ 12 ⌝ }
-    ensures { λ _. ⌜ now (out .exit) ≡ twelveOf v ⌝ }
+    ensures { λ _. ⌜ now (out .exit) ≡ replicate 12 (pos 0) ⌝ }
 {
     let mut k: usize = 0;
     while k < 12 {
-        let t = v[k / 4][k % 4];
-        out[k] = t;
+        out[k] = 0;
         k += 1;
     }
-}
-
-// D, and three phases behind it, over a part of thirteen.
-pub(crate) fn thirteen(out: &mut [i64], d: i64, v: [[i64; 4]; 3])
-    requires { ⌜ length (now out) ≡ 13 ⌝ }
-    ensures { λ _. ⌜ now (out .exit) ≡ d ∷ twelveOf v ⌝ }
-{
-    out[0] = d;
-    three(&mut out[1..13], v);
-}
-
-// A board's voltages and its record's currents, over a part of 24.
-pub(crate) fn both(out: &mut [i64], v: [[i64; 4]; 3], c: [[i64; 4]; 3])
-    requires { ⌜ length (now out) ≡ 24 ⌝ }
-    ensures { λ _. ⌜ now (out .exit) ≡ twelveOf v ++ twelveOf c ⌝ }
-{
-    three(&mut out[0..12], v);
-    three(&mut out[12..24], c);
 }

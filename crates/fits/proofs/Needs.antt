@@ -1,5 +1,5 @@
--- What `phasor` asks at each step, in the order in which the table is computed: of add, sub, conj and sixth each operand (Addable), of mul both (Factors), of neg,
--- turn and square theirs. Assumes nothing.
+-- What `phasor` asks at each step, in the order in which the table is computed: of add, sub, conj and turn each operand (Addable), of mul both (Factors), of neg
+-- and square theirs. Assumes nothing.
 use mathlib.Core.Path.{_≡_, sym, subst}
 use Prim.Native.Nat.{ℕ}
 use lib.Dec.{lit≤}
@@ -8,14 +8,14 @@ use Rattle.lemmas.specs.Small.{Small}
 use Rattle.turn.specs.declared.Num.{Num}
 use Rattle.turn.specs.Number.{wholeN, oneN, _+N_, _-N_, _*N_, turnN, conjN}
 use Rattle.turn.specs.Bounds.{Within}
-use Rattle.phasor.specs.Bounds.{Addable, Negatable, Squarable, Factors, Turnable}
-use Rattle.turn.proofs.Within.{within-weak, within-add, within-sub, within-turn}
+use Rattle.phasor.specs.Bounds.{Addable, Negatable, Squarable, Factors}
+use Rattle.turn.proofs.Within.{within-weak, within-add, within-turn}
 use Rattle.paper.specs.declared.Ohms.{Ohms}
 use Rattle.paper.specs.declared.Seq.{Seq}
 use Rattle.paper.specs.Fault.{numOf}
 use Rattle.follows.proofs.Row.{GOf, rowOf}
 use Rattle.paper.specs.Bounds.{AtMost, Plane, EachSeq, mostD, mostI, mostW, mostLift}
-use Rattle.fits.proofs.Plane.{plane-num, plane-whole, plane-add, plane-sub, plane-mul, plane-conj, addable, negatable, turnable, squarable, factors}
+use Rattle.fits.proofs.Plane.{plane-num, plane-whole, plane-add, plane-sub, plane-mul, plane-conj, addable, negatable, squarable, factors}
 use Rattle.fits.proofs.Sizes.{Ranged, plane-one, G-plane, divisor-plane, above-plane, drop-plane}
 
 -- ---- the divisor
@@ -126,31 +126,41 @@ for-first d ua p =
     let v = drop-plane ua p in
     record { whole = addable w (lit≤ tt); drop1 = addable v (lit≤ tt); turned = negatable (plane-sub w v) (lit≤ tt) }
 
--- ---- what is shown: the sequences turned, then sums of them: u is the zero, v the positive and w the negative sequence, turned
-pub for-turns : {X : Seq} → EachSeq (Plane mostW) X → EachSeq Turnable X
-for-turns p = record { e1 = turnable (p .e1) (lit≤ tt); e2 = turnable (p .e2) (lit≤ tt); e0 = turnable (p .e0) (lit≤ tt) }
-
-pub record ForShown (u v w : Num) : Type 0 where
+-- ---- what is shown, of three sequences: all of them, and each over 1, a or a²
+pub record ForAll (u v w : Num) : Type 0 where
   pub zero : Addable u
   pub first : Addable v
   pub second : Addable w
-  pub between : Addable (w -N v)
-  pub sixth : Addable (turnN 2 (w -N v))
   pub both : Addable (v +N w)
-  pub onward : Addable (turnN 8 v +N turnN 4 w)
-  pub rest : Addable (u -N (v +N w))
+  pub all : Addable (u +N (v +N w))
 
-pub for-shown : {u v w : Num} → Within mostW u → Within mostW v → Within mostW w → ForShown u v w
-for-shown p q r =
+pub for-all : {u v w : Num} → Within mostW u → Within mostW v → Within mostW w → ForAll u v w
+for-all p q r =
     record {
       zero = within-weak (lit≤ tt) p;
       first = within-weak (lit≤ tt) q;
       second = within-weak (lit≤ tt) r;
-      between = within-weak (lit≤ tt) (within-sub r q);
-      sixth = within-weak (lit≤ tt) (within-turn 2 (within-sub r q));
       both = within-weak (lit≤ tt) (within-add q r);
-      onward = within-weak (lit≤ tt) (within-add (within-turn 8 q) (within-turn 4 r));
-      rest = within-weak (lit≤ tt) (within-sub p (within-add q r));
+      all = within-weak (lit≤ tt) (within-add p (within-add q r));
+    }
+
+pub record ForThirds (c0 c1 c2 : Num) : Type 0 where
+  pub plain : Addable c0
+  pub over-a : Addable c1
+  pub over-a² : Addable c2
+  pub by-a : Addable (turnN 4 c1)
+  pub by-a² : Addable (turnN 8 c2)
+  pub turned : Addable (turnN 4 c1 +N turnN 8 c2)
+
+pub for-thirds : {c0 c1 c2 : Num} → Within mostW c0 → Within mostW c1 → Within mostW c2 → ForThirds c0 c1 c2
+for-thirds p q r =
+    record {
+      plain = within-weak (lit≤ tt) p;
+      over-a = within-weak (lit≤ tt) q;
+      over-a² = within-weak (lit≤ tt) r;
+      by-a = within-weak (lit≤ tt) (within-turn 4 q);
+      by-a² = within-weak (lit≤ tt) (within-turn 8 r);
+      turned = within-weak (lit≤ tt) (within-add (within-turn 4 q) (within-turn 8 r));
     }
 
 -- ---- what holds of a number holds of a result that is that number

@@ -1,21 +1,17 @@
 -- Numbers R + jX with their bound, and what the operations ask of them. Assumes nothing.
-use mathlib.Core.Path.{_≡_, refl, sym, ap₂, subst}
-use mathlib.Core.Bool.{Bool, true, false, _||_}
+use mathlib.Core.Path.{_≡_, sym, ap₂, subst}
 use Prim.Native.Nat.{ℕ, _+_, _*_, _^_, _≤_}
 use native.Mathlib.Omega.{arith}
-use lib.Dec.{ltb}
 use lib.IntN.{ℤ, pos}
-use borrow.Author.Tests.{ltb-false}
 use Rattle.lemmas.specs.Small.{Small}
 use Rattle.lemmas.proofs.Distance.{small-neg}
 use Rattle.turn.specs.declared.Num.{Num}
 use Rattle.turn.specs.Number.{wholeN, complexN, _+N_, negN, _-N_, _*N_, turnN, conjN}
 use Rattle.turn.specs.Bounds.{Within}
-use Rattle.phasor.specs.Bounds.{Addable, Negatable, Squarable, Factors, Turnable}
+use Rattle.phasor.specs.Bounds.{Addable, Negatable, Squarable, Factors}
 use Rattle.turn.proofs.Conj.{complex-conj}
 use Rattle.turn.proofs.Within.{within-weak, within-add, within-neg, within-complex, within-turn-complex, within-complex-mul}
 use Rattle.paper.specs.declared.Ohms.{Ohms}
-use Rattle.paper.specs.Kind.{partOver}
 use Rattle.paper.specs.Fault.{numOf}
 use Rattle.paper.specs.Bounds.{AtMost, Plane}
 use Rattle.follows.proofs.Flat.{flat-is, flat-complex, flat-add, flat-neg, flat-mul, flat-conj}
@@ -41,6 +37,9 @@ pub plane-sub : {b d : ℕ} {m n : Num} → Plane b m → Plane d n → Plane (b
 plane-sub p q = plane-add p (plane-neg q)
 
 -- the form R + jX itself
+pub plane-is : {b : ℕ} {n : Num} → Plane b n → n ≡ complexN (n .x0) (n .x3)
+plane-is p = flat-is (p .flat)
+
 form : {b : ℕ} {n : Num} → Plane b n → Within b (complexN (n .x0) (n .x3))
 form {b} p = subst (Within b) (flat-is (p .flat)) (p .within)
 
@@ -65,9 +64,6 @@ addable p h = within-weak h (p .within)
 
 pub negatable : {b : ℕ} {n : Num} → Plane b n → b ≤ 2 ^ 62 → Negatable n
 negatable p h = within-weak h (p .within)
-
-pub turnable : {b : ℕ} {n : Num} → Plane b n → b ≤ 2 ^ 61 → Turnable n
-turnable p h = record { no-t = p .flat .no-t; no-t² = p .flat .no-t²; within = within-weak h (p .within) }
 
 pub squarable : {b : ℕ} {n : Num} → Plane b n → b ≤ 2 ^ 30 → Squarable n
 squarable p h = record { no-t = p .flat .no-t; no-t² = p .flat .no-t²; within = within-weak h (p .within) }

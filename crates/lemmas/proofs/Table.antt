@@ -1,12 +1,12 @@
 -- What is shown at each of the numbers 0, 1, .., k - 1 by computation holds at every number below k; and a table that is a function there.
 -- Assumes nothing.
-use mathlib.Core.Path.{_≡_, sym, ap, _∙_, subst}
+use mathlib.Core.Path.{_≡_, refl, sym, ap, _∙_, subst}
 use mathlib.Core.Bool.{Bool, true, _&&_}
 use mathlib.Core.List.{List, [], _∷_}
 use Prim.Native.Nat.{ℕ, zero, suc, _+_, _<_}
 use native.Mathlib.Nat.{add-zero, zero-add, add-suc, suc-add, le-of-suc-le-suc, not-suc-le-zero}
 use lib.Dec.{T}
-use lib.ListN.{getD}
+use lib.ListN.{getD, length}
 use Rattle.lemmas.specs.Table.{tab}
 use Rattle.lemmas.proofs.Bools.{bothT}
 
@@ -44,3 +44,12 @@ tab-from f d i (suc k) (suc n) h = tab-from f d (suc i) k n (le-of-suc-le-suc h)
 
 pub tab-at : {X : Type 0} (f : ℕ → X) (d : X) (k n : ℕ) → n < k → getD (tab f 0 k) n d ≡ f n
 tab-at f d k n h = tab-from f d 0 k n h ∙ ap f (zero-add n)
+
+-- a list is the table of its own entries: with a length that is a numeral, it is spelled out
+tab-next : {X : Type 0} (f : ℕ → X) (i k : ℕ) → tab f (suc i) k ≡ tab (λ n. f (suc n)) i k
+tab-next f i zero = refl
+tab-next f i (suc k) = ap (λ xs. f (suc i) ∷ xs) (tab-next f (suc i) k)
+
+pub tab-own : {X : Type 0} (d : X) (xs : List X) → xs ≡ tab (λ n. getD xs n d) 0 (length xs)
+tab-own d [] = refl
+tab-own d (x ∷ xs) = ap (λ ys. x ∷ ys) (tab-own d xs ∙ sym (tab-next (λ n. getD (x ∷ xs) n d) 0 (length xs)))

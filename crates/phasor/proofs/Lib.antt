@@ -1,2 +1,3 @@
 mod Operands
 mod RuledOut
+mod Table

@@ -8,14 +8,14 @@ use Rattle.lemmas.proofs.RuledOut.{_↛_, RuledOut, ever, by-equation, whole}
 use Rattle.turn.specs.declared.Num.{Num}
 use Rattle.turn.specs.Number.{_+N_, negN, _-N_, _·N_, _*N_, timesT, powerN, turnN, conjN, squareN}
 use Rattle.turn.proofs.Told.{minus, num, told, within}
-use Rattle.phasor.specs.Bounds.{Addable, Squarable, Factors, Turnable}
+use Rattle.phasor.specs.Bounds.{Addable, Squarable, Factors}
 use Rattle.phasor.proofs.sum.add.Reads as add
 use Rattle.phasor.proofs.sum.neg.Reads as neg
 use Rattle.phasor.proofs.sum.sub.Reads as sub
 use Rattle.phasor.proofs.sum.conj.Reads as conj
-use Rattle.phasor.proofs.sum.sixth.Reads as sixth
 use Rattle.phasor.proofs.product.mul.Reads as mul
 use Rattle.phasor.proofs.product.square.Reads as square
+use Rattle.phasor.proofs.turns.row.Reads as row
 use Rattle.phasor.proofs.turns.turn.Reads as turn
 
 -- ---- two numbers, and 3 + j4
@@ -39,9 +39,6 @@ n-m = record { left = 4; right = 8; one = within 4 n tt; other = within 8 m tt; 
 
 z-squares : Squarable z
 z-squares = record { no-t = refl; no-t² = refl; within = within (2 ^ 30) z tt }
-
-z-turns : Turnable z
-z-turns = record { no-t = refl; no-t² = refl; within = within (2 ^ 61) z tt }
 
 -- ---- the contracts
 pub add-not : RuledOut (add.Pre tt) (ever (add.Post tt)) (
@@ -72,14 +69,6 @@ pub conj-not : RuledOut (conj.Pre tt) (ever (conj.Post tt)) (
 unfolding conjN _+N_ _·N_ powerN timesT
 conj-not = by-equation (λ a. conjN (a .0)) told (λ a r e s. s) (n-small, (n-small, tt)) tt
 
-pub sixth-not : RuledOut (sixth.Pre tt) (ever (sixth.Post tt)) (
-    (n, tt) ↛ num (minus 3) (minus 4) (pos 2) (pos 6)  -- sixth_keeps_t2
-    ∷ (n, tt) ↛ num (minus 3) (minus 3) (pos 4) (pos 6)  -- sixth_other_coordinate
-    ∷ (n, tt) ↛ num (pos 3) (minus 4) (pos 4) (pos 6)  -- sixth_sign
-    ∷ [])
-unfolding _*N_ _+N_ _·N_ powerN timesT
-sixth-not = by-equation (λ a. turnN 2 (a .0)) told (λ a r e s. s) (n-small, (n-small, (n-small, tt))) tt
-
 pub mul-not : RuledOut (mul.Pre tt) (ever (mul.Post tt)) (
     (n, (m, tt)) ↛ num (minus 84) (minus 36) (pos 95) (pos 112)  -- mul_other_pair
     ∷ (n, (m, tt)) ↛ num (pos 24) (minus 36) (pos 95) (pos 112)  -- mul_sign
@@ -95,12 +84,27 @@ pub square-not : RuledOut (square.Pre tt) (ever (square.Post tt)) (
 unfolding squareN
 square-not = by-equation (λ a. squareN (a .0)) whole (λ a r e s. s) (z-squares, (z-squares, tt)) tt
 
+pub row-not : RuledOut (row.Pre tt) (ever (row.Post tt)) (
+    (7, tt) ↛ num (pos 0) (pos 1) (pos 0) (pos 0)  -- table_sign
+    ∷ (11, tt) ↛ num (pos 0) (pos 0) (pos 1) (minus 1)  -- table_other_coordinate
+    ∷ (6, tt) ↛ num (pos 1) (pos 0) (pos 0) (pos 0)  -- table_half_round
+    ∷ (1, tt) ↛ num (pos 0) (pos 1) (pos 0) (minus 1)  -- table_backwards
+    ∷ (12, tt) ↛ num (pos 0) (pos 1) (pos 0) (minus 1)  -- table_stops_at_the_last
+    ∷ [])
+unfolding powerN timesT
+row-not = by-equation (λ a. powerN (a .0)) told (λ a r e s. s) (tt, (tt, (tt, (tt, (tt, tt))))) tt
+
 pub turn-not : RuledOut (turn.Pre tt) (ever (turn.Post tt)) (
-    (z, (7, tt)) ↛ num (minus 8) (pos 3) (pos 4) (pos 3)  -- table_entry
-    ∷ (z, (11, tt)) ↛ num (minus 8) (pos 3) (pos 4) (pos 3)  -- table_last
-    ∷ (z, (6, tt)) ↛ z  -- turn_half_round
-    ∷ (z, (1, tt)) ↛ num (minus 4) (pos 4) (pos 4) (pos 0)  -- turn_other_coordinate
-    ∷ (z, (13, tt)) ↛ z  -- turn_past_table
+    (n, (1, tt)) ↛ num (pos 4) (pos 1) (pos 6) (pos 3)  -- turn_sign
+    ∷ (n, (6, tt)) ↛ n  -- turn_half_round
+    ∷ (n, (5, tt)) ↛ num (pos 4) (minus 1) (minus 6) (minus 3)  -- turn_backwards
+    ∷ (n, (1, tt)) ↛ num (minus 4) (pos 2) (pos 6) (pos 3)  -- turn_other_coordinate
+    ∷ (n, (3, tt)) ↛ num (minus 6) (minus 3) (pos 2) (pos 1)  -- turn_sum_left_out
+    ∷ (z, (1, tt)) ↛ num (minus 4) (pos 3) (pos 0) (pos 0)  -- turn_t4_is_minus_1
+    ∷ (n, (13, tt)) ↛ num (pos 2) (pos 4) (pos 4) (minus 1)  -- turn_stops_at_the_last
+    ∷ (n, (100, tt)) ↛ num (pos 4) (pos 6) (minus 1) (minus 2)  -- turn_sixteen_is_one
     ∷ [])
 unfolding _*N_ _+N_ _·N_ powerN timesT
-turn-not = by-equation (λ a. turnN (a .1 .0) (a .0)) told (λ a r e s. s) (z-turns, (z-turns, (z-turns, (z-turns, (z-turns, tt))))) tt
+turn-not =
+    by-equation (λ a. turnN (a .1 .0) (a .0)) told (λ a r e s. s)
+    (n-small, (n-small, (n-small, (n-small, (n-small, (within (2 ^ 61) z tt, (n-small, (n-small, tt)))))))) tt

@@ -5,7 +5,7 @@ use lib.IntN.{pos}
 use Rattle.turn.specs.declared.Num.{Num}
 use Rattle.turn.specs.Bounds.{Within}
 
--- a sum, a difference, a conjugate or a sixth of a turn, which add two coordinates
+-- a sum, a difference, a conjugate or a turn, which add two coordinates
 abbrev pub Addable : Num → Type 0
 Addable n = Within (2 ^ 61) n
 
@@ -26,9 +26,3 @@ pub record Factors (a b : Num) : Type 0 where
   pub one : Within left a
   pub other : Within right b
   pub room : left * right ≤ 2 ^ 60
-
--- a turn, of a number R + jX alone: a coordinate of it turned sums at most three of R and X
-pub record Turnable (n : Num) : Type 0 where
-  pub no-t : n .x1 ≡ pos 0
-  pub no-t² : n .x2 ≡ pos 0
-  pub within : Within (2 ^ 61) n

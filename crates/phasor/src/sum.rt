@@ -1,6 +1,6 @@
-// Sums, opposites, differences and conjugates of numbers, and a sixth of a turn: what adds coordinates.
+// Sums, opposites, differences and conjugates of numbers: what adds coordinates.
 ghost use mathlib.Core.Path.{_≡_};
-ghost use Rattle.turn.specs.Number.{_+N_, negN, _-N_, conjN, turnN};
+ghost use Rattle.turn.specs.Number.{_+N_, negN, _-N_, conjN};
 ghost use Rattle.phasor.specs.Bounds.{Addable, Negatable};
 use turn::Num;
 
@@ -72,27 +72,6 @@ pub fn conj(a: Num) -> Num
     Num {
         x0: r0,
         x1: a1,
-        x2: r2,
-        x3: r3,
-    }
-}
-
-// A sixth of a turn forward, t²: sums of coordinates where `turns` would multiply.
-pub fn sixth(a: Num) -> Num
-    requires { ⌜ Addable a ⌝ }
-    ensures { λ r. ⌜ r ≡ turnN 2 a ⌝ }
-{
-    let a0 = a.x0;
-    let a1 = a.x1;
-    let a2 = a.x2;
-    let a3 = a.x3;
-    let r0 = -a2;
-    let r1 = -a3;
-    let r2 = a0 + a2;
-    let r3 = a1 + a3;
-    Num {
-        x0: r0,
-        x1: r1,
         x2: r2,
         x3: r3,
     }

@@ -1,62 +1,44 @@
-// The twelve turns t⁰ to t¹¹, in a table, and R + jX turned.
+// The twelve turns t⁰ to t¹¹, in a table, and any number turned, which takes no product.
 ghost use mathlib.Core.Path.{_≡_};
-ghost use mathlib.Core.List.{_∷_, []};
-ghost use Prim.Native.Nat.{_<_};
+ghost use Prim.Native.Nat.{_%_};
 ghost use Rattle.turn.specs.Number.{powerN, turnN};
-ghost use Rattle.phasor.specs.Bounds.{Turnable};
+ghost use Rattle.phasor.specs.Bounds.{Addable};
 use turn::Num;
 
-// The table: row n is tⁿ. Twelve constants and no array of them, since an array is written to the stack wherever it is read; these stay in constant memory.
-const T0: [i64; 4] = [1, 0, 0, 0];
+// The table: row n is tⁿ. `turn` does not read it: that would be a product, of sixteen multiplications.
+const TURNS: [[i64; 4]; 12] = [
+    [1, 0, 0, 0],
+    [0, 1, 0, 0],
+    [0, 0, 1, 0],
+    [0, 0, 0, 1],
+    [-1, 0, 1, 0],
+    [0, -1, 0, 1],
+    [-1, 0, 0, 0],
+    [0, -1, 0, 0],
+    [0, 0, -1, 0],
+    [0, 0, 0, -1],
+    [1, 0, -1, 0],
+    [0, 1, 0, -1],
+];
 
-const T1: [i64; 4] = [0, 1, 0, 0];
-
-const T2: [i64; 4] = [0, 0, 1, 0];
-
-const T3: [i64; 4] = [0, 0, 0, 1];
-
-const T4: [i64; 4] = [-1, 0, 1, 0];
-
-const T5: [i64; 4] = [0, -1, 0, 1];
-
-const T6: [i64; 4] = [-1, 0, 0, 0];
-
-const T7: [i64; 4] = [0, -1, 0, 0];
-
-const T8: [i64; 4] = [0, 0, -1, 0];
-
-const T9: [i64; 4] = [0, 0, 0, -1];
-
-const T10: [i64; 4] = [1, 0, -1, 0];
-
-const T11: [i64; 4] = [0, 1, 0, -1];
-
-fn line(n: usize) -> [i64; 4]
-    requires { ⌜ n < 12 ⌝ }
-    ensures { λ r. ⌜ r ≡ powerN n .x0 ∷ powerN n .x1 ∷ powerN n .x2 ∷ powerN n .x3 ∷ [] ⌝ }
+// Which of the twelve n turns come to. As 16 is 4 more than 12, 16 q + r turns come to 4 q + r: a remainder by sums, where a division by 12 would be compiled to a multiplication.
+fn hour(n: usize) -> usize
+    ensures { λ r. ⌜ r ≡ n % 12 ⌝ }
 {
-    match n {
-        0 => T0,
-        1 => T1,
-        2 => T2,
-        3 => T3,
-        4 => T4,
-        5 => T5,
-        6 => T6,
-        7 => T7,
-        8 => T8,
-        9 => T9,
-        10 => T10,
-        _ => T11,
+    let mut m = n;
+    while m > 15 {
+        let q = m / 16;
+        m = q + q + q + q + m % 16;
     }
+    if m < 12 { m } else { m - 12 }
 }
 
-// tⁿ
-fn row(n: usize) -> Num
-    requires { ⌜ n < 12 ⌝ }
+// tⁿ, from the table.
+pub fn row(n: usize) -> Num
     ensures { λ r. ⌜ r ≡ powerN n ⌝ }
 {
-    let r = line(n);
+    let h = hour(n);
+    let r = TURNS[h];
     Num {
         x0: r[0],
         x1: r[1],
@@ -65,26 +47,41 @@ fn row(n: usize) -> Num
     }
 }
 
-// n twelfths of a turn forward, of R + jX: R tⁿ and X t³ tⁿ, so half the products of two numbers.
+fn number(x0: i64, x1: i64, x2: i64, x3: i64) -> Num
+    ensures { λ r. ⌜ r ≡ record { x0 = x0; x1 = x1; x2 = x2; x3 = x3 } ⌝ }
+{
+    Num { x0, x1, x2, x3 }
+}
+
+// n twelfths of a turn forward: the four coordinates and two sums of them, moved about and signed. Where n is a literal, the compiler keeps its line alone.
 pub fn turn(a: Num, n: usize) -> Num
-    requires { ⌜ Turnable a ⌝ }
+    requires { ⌜ Addable a ⌝ }
     ensures { λ r. ⌜ r ≡ turnN n a ⌝ }
 {
-    let p = row(n % 12);
-    let p0 = p.x0;
-    let p1 = p.x1;
-    let p2 = p.x2;
-    let p3 = p.x3;
-    let r = a.x0;
-    let x = a.x3;
-    let r0 = r * p0 - x * (p1 + p3);
-    let r1 = r * p1 - x * p2;
-    let r2 = r * p2 + x * p1;
-    let r3 = r * p3 + x * (p0 + p2);
-    Num {
-        x0: r0,
-        x1: r1,
-        x2: r2,
-        x3: r3,
+    let a0 = a.x0;
+    let a1 = a.x1;
+    let a2 = a.x2;
+    let a3 = a.x3;
+    let s = a0 + a2;
+    let u = a1 + a3;
+    let n0 = -a0;
+    let n1 = -a1;
+    let n2 = -a2;
+    let n3 = -a3;
+    let ns = -s;
+    let nu = -u;
+    match hour(n) {
+        0 => number(a0, a1, a2, a3),
+        1 => number(n3, a0, u, a2),
+        2 => number(n2, n3, s, u),
+        3 => number(nu, n2, a1, s),
+        4 => number(ns, nu, a0, a1),
+        5 => number(n1, ns, n3, a0),
+        6 => number(n0, n1, n2, n3),
+        7 => number(a3, n0, nu, n2),
+        8 => number(a2, a3, ns, nu),
+        9 => number(u, a2, n1, ns),
+        10 => number(s, u, n0, n1),
+        _ => number(a1, s, a3, n0),
     }
 }

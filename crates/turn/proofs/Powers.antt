@@ -1,12 +1,11 @@
 -- The powers of t: twelve turns go round, and what that gives. Assumes nothing.
 use mathlib.Core.Path.{_≡_, refl, sym, _∙_, ap}
-use Prim.Native.Nat.{ℕ, zero, suc, _+_, _*_, _/_, _%_, _<_}
-use native.Mathlib.Nat.{add-suc, suc-add, zero-add, add-assoc, add-comm, mul-comm, suc-mul, zero-mul, div-add-mod'}
+use Prim.Native.Nat.{ℕ, zero, suc, _+_, _*_, _/_, _%_}
+use native.Mathlib.Nat.{add-suc, suc-add, zero-add, add-assoc, add-comm, suc-mul, zero-mul, div-add-mod'}
 use lib.IntN.{pos}
-use Rattle.lemmas.proofs.Table.{each-at}
 use Rattle.turn.specs.declared.Num.{Num}
-use Rattle.turn.specs.Number.{wholeN, _+N_, negN, _-N_, _·N_, _*N_, timesT, powerN, turnN, oneN, jN, aN, a2N}
-use Rattle.turn.proofs.Form.{timesTF, mulF, conF, wholeF, byCoordinates}
+use Rattle.turn.specs.Number.{wholeN, _+N_, negN, _-N_, _·N_, _*N_, timesT, powerN, turnN, oneN, jN, a2N}
+use Rattle.turn.proofs.Form.{timesTF, mulF, byCoordinates}
 use Rattle.turn.proofs.Ring.{*N-assoc, *N-one}
 
 -- t times a product
@@ -39,13 +38,7 @@ power-add (suc m) n = ap powerN (suc-add m n) ∙ ap timesT (power-add m n) ∙ 
 pub turn-add : (m n : ℕ) (a : Num) → turnN (m + n) a ≡ turnN m (turnN n a)
 turn-add m n a = ap (λ (p : Num). p *N a) (power-add m n) ∙ *N-assoc (powerN m) (powerN n) a
 
--- ---- the table's rule: row n times t is row n + 1, and after row 11 comes row 0
-pub rule : (n : ℕ) → n < 12 → powerN 1 *N powerN n ≡ powerN (suc n % 12)
-unfolding powerN timesT _*N_ _+N_ _·N_
-rule n h =
-    each-at (λ (m : ℕ). powerN 1 *N powerN m ≡ powerN (suc m % 12)) 12 n h
-    (refl, (refl, (refl, (refl, (refl, (refl, (refl, (refl, (refl, (refl, (refl, (refl, tt))))))))))))
-
+-- ---- twelve turns go round
 pub again : (n : ℕ) → powerN (12 + n) ≡ powerN n
 unfolding powerN timesT
 again zero = refl
@@ -57,6 +50,10 @@ rounds (suc q) r = ap powerN (ap (λ (m : ℕ). m + r) (suc-mul q 12 ∙ add-com
 
 pub power-mod : (n : ℕ) → powerN (n % 12) ≡ powerN n
 power-mod n = sym (rounds (n / 12) (n % 12)) ∙ ap powerN (div-add-mod' n 12)
+
+-- so as many turns but for whole rounds are the same turn
+pub turn-same : (m n : ℕ) (a : Num) → m % 12 ≡ n % 12 → turnN m a ≡ turnN n a
+turn-same m n a e = ap (λ (p : Num). p *N a) (sym (power-mod m) ∙ ap powerN e ∙ power-mod n)
 
 -- ---- the named ones
 pub t-four : powerN 4 ≡ powerN 2 -N oneN

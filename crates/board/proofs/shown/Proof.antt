@@ -12,8 +12,11 @@ cast-phases-2 c = search needs
 phases-requires : tie.Need-phases-requires
 phases-requires c κs = search needs
 
+same-length : tie.Need-same-length
+same-length c = search needs
+
 returns : tie.Need-returns
-returns c = c .phases .ensures
+returns c = c .before .phases .ensures
 
 pub shown-spec : {M : Type 1} → statement M
-shown-spec = tie.close (tie.spec cast-phases cast-phases-2 phases-requires returns)
+shown-spec = tie.close (tie.spec cast-phases cast-phases-2 phases-requires same-length returns)

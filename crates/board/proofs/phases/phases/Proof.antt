@@ -1,70 +1,70 @@
--- `board::phases::phases` meets its contract: which phase is the odd one, for each p. Assumes nothing.
-use mathlib.Core.Path.{_≡_, sym, ap, _∙_}
-use mathlib.Core.List.{List, [], _∷_}
-use Prim.Native.Nat.{ℕ, _+_, _*_, _%_, _≤_}
+-- `board::phases::phases` meets its contract. Assumes nothing.
+use mathlib.Core.Path.{refl, _∙_}
+use Prim.Native.Nat.{_+_, _*_}
 use native.Mathlib.Omega.{arith}
-use lib.IntN.{ℤ}
 use borrow.Author.Needs.{needs}
-use Rattle.turn.specs.declared.Num.{Num}
-use Rattle.paper.specs.declared.Seq.{Seq}
-use Rattle.paper.specs.Phase.{four, shows, phase, phases}
+use Rattle.fits.proofs.Plane.{plane-turn}
+use Rattle.fits.proofs.Needs.{within-is}
+use Rattle.board.proofs.Sums.{laid-shows}
 use Rattle.board.proofs.phases.phases.Statement.{statement}
 use Rattle.board.proofs.phases.phases.Tie as tie
 
--- where p is known to be q: phases a, b and c are these from the odd one
-module _ (p sj sk : ℕ) (X : Seq) (q : ℕ) (e : p ≡ q) where
-  known : (ph : ℕ) {n : Num} {l : List ℤ} → l ≡ four n → n ≡ shows p sj sk X ((ph + 2 * q) % 3) → l ≡ four (phase p sj sk X ph)
-  unfolding phase
-  known ph f g = f ∙ ap (λ (n : Num). four n) g ∙ ap (λ (m : ℕ). four (shows p sj sk X ((ph + 2 * m) % 3))) (sym e)
+mul-back : tie.Need-mul-back
+mul-back c = search needs
 
-  abc : {k l m : Num} {a b c : List ℤ}
-      → a ≡ four k → k ≡ shows p sj sk X ((0 + 2 * q) % 3) → b ≡ four l → l ≡ shows p sj sk X ((1 + 2 * q) % 3) → c ≡ four m → m ≡ shows p sj sk X ((2 + 2 * q) % 3)
-      → a ∷ b ∷ c ∷ [] ≡ phases p sj sk X
-  unfolding phases
-  abc f g h k l m = let a = known 0 f g in let b = known 1 h k in let c = known 2 l m in λ i. a i ∷ b i ∷ c i ∷ []
+add-back : tie.Need-add-back
+add-back c = search needs
+
+mul-forth : tie.Need-mul-forth
+mul-forth c = search needs
+
+add-forth : tie.Need-add-forth
+add-forth c = search needs
+
+quarters-requires : tie.Need-quarters-requires
+quarters-requires c κs = c .before .before .before .pre .1 .1 .e0
+
+quarters-requires-2 : tie.Need-quarters-requires-2
+quarters-requires-2 c κs = c .before .before .before .before .pre .1 .1 .e1
+
+quarters-requires-3 : tie.Need-quarters-requires-3
+quarters-requires-3 c κs = c .before .before .before .before .before .pre .1 .1 .e2
+
+add-f : tie.Need-add-f
+add-f c = search needs
+
+three-requires : tie.Need-three-requires
+three-requires c κs =
+    let d = c .before in
+    let s = d .before .before .before .before .before .before in
+    let a = s .args in
+    let x = s .pre .1 .1 in (
+      (s .pre .0, s .pre .1 .0 .0, omega arith),
+      (within-is (d .before .before .quarters .ensures) (plane-turn (9 * 0) (x .e0)), within-is (d .before .quarters2 .ensures) (plane-turn (9 * (11 * a .sj + a .sk)) (x .e1)), within-is (d .quarters3 .ensures) (plane-turn (9 * (a .sj + 11 * a .sk)) (x .e2))),
+    )
+
+same-length : tie.Need-same-length
+same-length c = search needs
 
 returns : tie.Need-returns
 returns c =
-    let last = c .before in
-    let next = last .before in
-    let odd = next .before in
-    let s = odd .before .before .args in
-    let t = odd .before .three .ensures in
-    abc (s .p) (s .sj) (s .sk) (s .x) 0 (c .if1 .taken) (odd .four .ensures) (t .0) (next .four2 .ensures) (t .1) (last .four3 .ensures) (t .2)
-
-returns-2 : tie.Need-returns-2
-returns-2 c =
-    let last = c .before .before in
-    let next = last .before in
-    let odd = next .before in
-    let s = odd .before .before .args in
-    let t = odd .before .three .ensures in
-    abc (s .p) (s .sj) (s .sk) (s .x) 1 (c .if2 .taken) (last .four3 .ensures) (t .2) (odd .four .ensures) (t .0) (next .four2 .ensures) (t .1)
-
-two : {p : ℕ} → p ≤ 2 → (p ≡ 0 → ⊥) → (p ≡ 1 → ⊥) → p ≡ 2
-two h k l = omega arith
-
-returns-3 : tie.Need-returns-3
-returns-3 c =
-    let last = c .before .before in
-    let next = last .before in
-    let odd = next .before in
-    let s = odd .before .before .args in
-    let t = odd .before .three .ensures in
-    let e = two (odd .before .before .pre .0 .0) (c .before .if1 .left) (c .if2 .left) in
-    abc (s .p) (s .sj) (s .sk) (s .x) 2 e (next .four2 .ensures) (t .1) (last .four3 .ensures) (t .2) (odd .four .ensures) (t .0)
-
-three-requires : tie.Need-three-requires
-three-requires c κs = search needs
-
-four-requires : tie.Need-four-requires
-four-requires c κs = search needs
-
-four-requires-2 : tie.Need-four-requires-2
-four-requires-2 c κs = search needs
-
-four-requires-3 : tie.Need-four-requires-3
-four-requires-3 c κs = search needs
+    let d = c .before .before .before in
+    let s = d .before .before .before .before .before .before in
+    let a = s .args in
+    c .before .three .ensures ∙ laid-shows (a .p) (a .sj) (a .sk) (a .x) (a .out .now) (s .pre .0) refl (d .before .before .quarters .ensures) (d .before .quarters2 .ensures) (d .quarters3 .ensures)
 
 pub phases-spec : {M : Type 1} → statement M
-phases-spec = tie.close (tie.spec three-requires four-requires four-requires-2 four-requires-3 returns returns-2 returns-3)
+phases-spec =
+    tie.close
+    (tie.spec
+    mul-back
+    add-back
+    mul-forth
+    add-forth
+    quarters-requires
+    quarters-requires-2
+    quarters-requires-3
+    add-f
+    three-requires
+    same-length
+    returns)
