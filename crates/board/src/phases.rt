@@ -17,6 +17,7 @@ use phasor::sum::add;
 use phasor::turns::turn;
 use turn::Num;
 
+// Both are worked out and one is taken: the turns of a network's boards follow no pattern, and a jump would be guessed wrong.
 fn turn_if(on: bool, a: Num, n: usize) -> Num
     requires { ⌜ Addable a ⌝ }
     ensures { λ r. ⌜ r ≡ cond on (turnN n a) a ⌝ }
@@ -24,7 +25,7 @@ fn turn_if(on: bool, a: Num, n: usize) -> Num
     if on { turn(a, n) } else { a }
 }
 
-// n quarters of a turn back. R + jX is taken apart and put together so that the compiler knows the other two coordinates to be 0, and leaves out what is done with them.
+// n quarters of a turn back. R + jX is taken apart and put together: so the compiler knows that the other two coordinates are 0, and leaves out what is done with them.
 fn quarters(a: Num, n: usize) -> Num
     requires { ⌜ Plane mostW a ⌝ }
     ensures { λ r. ⌜ r ≡ turnN (9 * n) a ⌝ }
@@ -34,7 +35,7 @@ fn quarters(a: Num, n: usize) -> Num
     turn_if(n / 2 % 2 == 1, b, 6)
 }
 
-// c0 + a c1 + a² c2, over the part of phase ph.
+// c0 + a c1 + a² c2, shown by phase ph.
 fn thirds(out: &mut [i64], ph: usize, c0: Num, c1: Num, c2: Num)
     requires { ⌜ (length (now out) ≡ 12) × (ph ≤ 2) ⌝ }
     requires { ⌜ Within mostW c0 × Within mostW c1 × Within mostW c2 ⌝ }
@@ -52,7 +53,7 @@ fn after(ph: usize) -> usize
     if ph == 2 { 0 } else { ph + 1 }
 }
 
-// From phase f on, what is shown of u, v and w, turned by t^(8p): each stands over 1, a or a².
+// Three phases from f on, of u, v and w. In the i-th v is turned by a^(2i), w by aⁱ, and all by t^(8p), which is 1, a² or a: so each of the three only comes to stand over another of 1, a and a².
 fn three(out: &mut [i64], p: usize, f: usize, u: Num, v: Num, w: Num)
     requires { ⌜ (length (now out) ≡ 12) × (p ≤ 2) × (f ≤ 2) ⌝ }
     requires { ⌜ Within mostW u × Within mostW v × Within mostW w ⌝ }
@@ -76,7 +77,7 @@ fn three(out: &mut [i64], p: usize, f: usize, u: Num, v: Num, w: Num)
     }
 }
 
-// A turn is at most 256 clocks of 11.
+// Phases a, b and c. The zero sequence is not turned by d, the positive one is turned back and the negative one forth. A turn is at most 256 clocks of 11.
 pub(crate) fn phases(out: &mut [i64], p: usize, sj: usize, sk: usize, x: Seq)
     requires { ⌜ length (now out) ≡ 12 ⌝ }
     requires { ⌜ (p ≤ 2) × (sj ≤ 2816) × (sk ≤ 2816) ⌝ }
