@@ -14,31 +14,28 @@ use Rattle.turn.specs.declared.Num.{Num}
 use Rattle.paper.specs.declared.Seq.{Seq}
 use Rattle.paper.specs.Phase.{four, phases}
 use Rattle.paper.specs.Answer.{flat}
-use Rattle.board.specs.Put.{shownAt}
+use Rattle.board.specs.Put.{shownAt, laid}
 
--- what holds of twelve numbers spelled out holds of every list of twelve
-twelve : (P : List ℤ → Type 0) → ((f : ℕ → ℤ) → P (tab f 0 12)) → (xs : List ℤ) → length xs ≡ 12 → P xs
-twelve P h xs e = subst P (sym (tab-own (pos 0) xs ∙ ap (tab (λ n. getD xs n (pos 0)) 0) e)) (h (λ n. getD xs n (pos 0)))
+-- what holds of twelve numbers spelled out, at each of the three phases, holds of every list of twelve at every phase
+module _ (P : ℕ → List ℤ → Type 0) where
+  abbrev Spelled : ℕ → Type 0
+  Spelled ph = (f : ℕ → ℤ) → P ph (tab f 0 12)
+
+  each-phase : Spelled 0 → Spelled 1 → Spelled 2 → (ph : ℕ) (xs : List ℤ) → ph ≤ 2 → length xs ≡ 12 → P ph xs
+  each-phase a b c ph xs h e = subst (P ph) (sym (tab-own (pos 0) xs ∙ ap (tab (λ n. getD xs n (pos 0)) 0) e)) (each-at Spelled 3 ph (omega arith) (a, (b, (c, tt))) (λ n. getD xs n (pos 0)))
 
 -- four stores
-pub stored : (ph : ℕ) (n : Num) (xs : List ℤ) → ph ≤ 2 → length xs ≡ 12
-    → set (set (set (set xs (4 * ph) (n .x0)) (4 * ph + 1) (n .x1)) (4 * ph + 2) (n .x2)) (4 * ph + 3) (n .x3) ≡ shownAt ph n xs
+abbrev stores : ℕ → Num → List ℤ → List ℤ
+stores ph n xs = set (set (set (set xs (4 * ph) (n .x0)) (4 * ph + 1) (n .x1)) (4 * ph + 2) (n .x2)) (4 * ph + 3) (n .x3)
+
+pub stored : (n : Num) (ph : ℕ) (xs : List ℤ) → ph ≤ 2 → length xs ≡ 12 → stores ph n xs ≡ shownAt ph n xs
 unfolding shownAt over
-stored ph n xs h e =
-    each-at (λ (ph : ℕ). P ph xs) 3 ph (omega arith) (twelve (P 0) (λ f. refl) xs e, (twelve (P 1) (λ f. refl) xs e, (twelve (P 2) (λ f. refl) xs e, tt)))
-  where
-    P : ℕ → List ℤ → Type 0
-    P ph xs = set (set (set (set xs (4 * ph) (n .x0)) (4 * ph + 1) (n .x1)) (4 * ph + 2) (n .x2)) (4 * ph + 3) (n .x3) ≡ shownAt ph n xs
+stored n = each-phase (λ ph xs. stores ph n xs ≡ shownAt ph n xs) (λ f. refl) (λ f. refl) (λ f. refl)
 
 -- from any phase on, all three are shown
-pub all-shown : (R : ℕ → Num) (f : ℕ) (xs : List ℤ) → f ≤ 2 → length xs ≡ 12
-    → shownAt ((f + 2) % 3) (R ((f + 2) % 3)) (shownAt ((f + 1) % 3) (R ((f + 1) % 3)) (shownAt ((f + 0) % 3) (R ((f + 0) % 3)) xs)) ≡ flat (four (R 0) ∷ four (R 1) ∷ four (R 2) ∷ [])
-unfolding shownAt over flat
-all-shown R f xs h e =
-    each-at (λ (f : ℕ). P f xs) 3 f (omega arith) (twelve (P 0) (λ g. refl) xs e, (twelve (P 1) (λ g. refl) xs e, (twelve (P 2) (λ g. refl) xs e, tt)))
-  where
-    P : ℕ → List ℤ → Type 0
-    P f xs = shownAt ((f + 2) % 3) (R ((f + 2) % 3)) (shownAt ((f + 1) % 3) (R ((f + 1) % 3)) (shownAt ((f + 0) % 3) (R ((f + 0) % 3)) xs)) ≡ flat (four (R 0) ∷ four (R 1) ∷ four (R 2) ∷ [])
+pub all-shown : (n : ℕ → Num) (f : ℕ) (xs : List ℤ) → f ≤ 2 → length xs ≡ 12 → laid f (λ i. n ((f + i) % 3)) xs ≡ flat (four (n 0) ∷ four (n 1) ∷ four (n 2) ∷ [])
+unfolding laid shownAt over flat
+all-shown n = each-phase (λ f xs. laid f (λ i. n ((f + i) % 3)) xs ≡ flat (four (n 0) ∷ four (n 1) ∷ four (n 2) ∷ [])) (λ g. refl) (λ g. refl) (λ g. refl)
 
 -- ---- a part from the front and the part behind it, that together are all of xs
 pub two-parts : (m n : ℕ) (xs : List ℤ) {us vs : List ℤ} (ys zs : List ℤ) → us ≡ ys → vs ≡ zs → m ≡ length ys → n ≡ length zs → m + n ≡ length xs → putMid m n (putMid 0 m xs us) vs ≡ ys ++ zs

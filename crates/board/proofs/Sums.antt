@@ -5,7 +5,7 @@ use Prim.Native.Nat.{ℕ, _+_, _*_, _/_, _%_, _≤_}
 use native.Mathlib.Omega.{arith}
 use lib.IntN.{ℤ}
 use lib.ListN.{length}
-use Rattle.lemmas.proofs.Solver.{con, _⊕_, _⊗_}
+use Rattle.lemmas.proofs.Solver.{E, con, _⊕_, _⊗_}
 use Rattle.lemmas.proofs.Solve.{solve}
 use Rattle.turn.specs.declared.Num.{Num}
 use Rattle.turn.specs.Number.{_+N_, powerN, timesT, turnN}
@@ -14,56 +14,59 @@ use Rattle.turn.proofs.Powers.{turn-zero, turn-add, turn-same}
 use Rattle.paper.specs.declared.Seq.{Seq}
 use Rattle.paper.specs.Phase.{four, shows, phase, phases}
 use Rattle.paper.specs.Answer.{flat}
-use Rattle.board.specs.Put.{shownAt, laid}
+use Rattle.board.specs.Put.{shownAt, sumOf, laid}
 use Rattle.board.proofs.Rows.{all-shown}
 
--- ---- t^(8p) (u + t^(8i) v + t^(4i) w), as the code adds it up for each p and i
-abbrev pub sum : ℕ → Num → Num → Num → ℕ → Num
-sum p u v w i = turnN (8 * p) (u +N turnN (8 * i) v +N turnN (4 * i) w)
+-- ---- what the code adds up for each p and i: c0 + a c1 + a² c2, and both sides as the solver has them
+abbrev overThirds : Num → Num → Num → Num
+overThirds c0 c1 c2 = c0 +N (turnN 4 c1 +N turnN 8 c2)
 
-abbrev pub over-thirds : Num → Num → Num → Num
-over-thirds c0 c1 c2 = c0 +N (turnN 4 c1 +N turnN 8 c2)
+abbrev thirdsE : E Num → E Num → E Num → E Num
+thirdsE c0 c1 c2 = c0 ⊕ (con (powerN 4) ⊗ c1 ⊕ con (powerN 8) ⊗ c2)
 
-pub odd-0 : (u v w : Num) → u +N (v +N w) ≡ sum 0 u v w 0
+abbrev sumE : ℕ → ℕ → E Num → E Num → E Num → E Num
+sumE p i u v w = con (powerN (8 * p)) ⊗ (u ⊕ con (powerN (8 * i)) ⊗ v ⊕ con (powerN (4 * i)) ⊗ w)
+
+pub odd-0 : (u v w : Num) → u +N (v +N w) ≡ sumOf 0 u v w 0
 unfolding powerN timesT
-odd-0 = solve Tring 3 (λ u v w. u ⊕ (v ⊕ w)) (λ u v w. con (powerN 0) ⊗ (u ⊕ con (powerN 0) ⊗ v ⊕ con (powerN 0) ⊗ w)) tt
+odd-0 = solve Tring 3 (λ u v w. u ⊕ (v ⊕ w)) (sumE 0 0) tt
 
-pub next-0 : (u v w : Num) → over-thirds u w v ≡ sum 0 u v w 1
+pub next-0 : (u v w : Num) → overThirds u w v ≡ sumOf 0 u v w 1
 unfolding powerN timesT
-next-0 = solve Tring 3 (λ u v w. u ⊕ (con (powerN 4) ⊗ w ⊕ con (powerN 8) ⊗ v)) (λ u v w. con (powerN 0) ⊗ (u ⊕ con (powerN 8) ⊗ v ⊕ con (powerN 4) ⊗ w)) tt
+next-0 = solve Tring 3 (λ u v w. thirdsE u w v) (sumE 0 1) tt
 
-pub last-0 : (u v w : Num) → over-thirds u v w ≡ sum 0 u v w 2
+pub last-0 : (u v w : Num) → overThirds u v w ≡ sumOf 0 u v w 2
 unfolding powerN timesT
-last-0 = solve Tring 3 (λ u v w. u ⊕ (con (powerN 4) ⊗ v ⊕ con (powerN 8) ⊗ w)) (λ u v w. con (powerN 0) ⊗ (u ⊕ con (powerN 16) ⊗ v ⊕ con (powerN 8) ⊗ w)) tt
+last-0 = solve Tring 3 (λ u v w. thirdsE u v w) (sumE 0 2) tt
 
-pub odd-1 : (u v w : Num) → turnN 8 (u +N (v +N w)) ≡ sum 1 u v w 0
+pub odd-1 : (u v w : Num) → turnN 8 (u +N (v +N w)) ≡ sumOf 1 u v w 0
 unfolding powerN timesT
-odd-1 = solve Tring 3 (λ u v w. con (powerN 8) ⊗ (u ⊕ (v ⊕ w))) (λ u v w. con (powerN 8) ⊗ (u ⊕ con (powerN 0) ⊗ v ⊕ con (powerN 0) ⊗ w)) tt
+odd-1 = solve Tring 3 (λ u v w. con (powerN 8) ⊗ (u ⊕ (v ⊕ w))) (sumE 1 0) tt
 
-pub next-1 : (u v w : Num) → over-thirds w v u ≡ sum 1 u v w 1
+pub next-1 : (u v w : Num) → overThirds w v u ≡ sumOf 1 u v w 1
 unfolding powerN timesT
-next-1 = solve Tring 3 (λ u v w. w ⊕ (con (powerN 4) ⊗ v ⊕ con (powerN 8) ⊗ u)) (λ u v w. con (powerN 8) ⊗ (u ⊕ con (powerN 8) ⊗ v ⊕ con (powerN 4) ⊗ w)) tt
+next-1 = solve Tring 3 (λ u v w. thirdsE w v u) (sumE 1 1) tt
 
-pub last-1 : (u v w : Num) → over-thirds v w u ≡ sum 1 u v w 2
+pub last-1 : (u v w : Num) → overThirds v w u ≡ sumOf 1 u v w 2
 unfolding powerN timesT
-last-1 = solve Tring 3 (λ u v w. v ⊕ (con (powerN 4) ⊗ w ⊕ con (powerN 8) ⊗ u)) (λ u v w. con (powerN 8) ⊗ (u ⊕ con (powerN 16) ⊗ v ⊕ con (powerN 8) ⊗ w)) tt
+last-1 = solve Tring 3 (λ u v w. thirdsE v w u) (sumE 1 2) tt
 
-pub odd-2 : (u v w : Num) → turnN 4 (u +N (v +N w)) ≡ sum 2 u v w 0
+pub odd-2 : (u v w : Num) → turnN 4 (u +N (v +N w)) ≡ sumOf 2 u v w 0
 unfolding powerN timesT
-odd-2 = solve Tring 3 (λ u v w. con (powerN 4) ⊗ (u ⊕ (v ⊕ w))) (λ u v w. con (powerN 16) ⊗ (u ⊕ con (powerN 0) ⊗ v ⊕ con (powerN 0) ⊗ w)) tt
+odd-2 = solve Tring 3 (λ u v w. con (powerN 4) ⊗ (u ⊕ (v ⊕ w))) (sumE 2 0) tt
 
-pub next-2 : (u v w : Num) → over-thirds v u w ≡ sum 2 u v w 1
+pub next-2 : (u v w : Num) → overThirds v u w ≡ sumOf 2 u v w 1
 unfolding powerN timesT
-next-2 = solve Tring 3 (λ u v w. v ⊕ (con (powerN 4) ⊗ u ⊕ con (powerN 8) ⊗ w)) (λ u v w. con (powerN 16) ⊗ (u ⊕ con (powerN 8) ⊗ v ⊕ con (powerN 4) ⊗ w)) tt
+next-2 = solve Tring 3 (λ u v w. thirdsE v u w) (sumE 2 1) tt
 
-pub last-2 : (u v w : Num) → over-thirds w u v ≡ sum 2 u v w 2
+pub last-2 : (u v w : Num) → overThirds w u v ≡ sumOf 2 u v w 2
 unfolding powerN timesT
-last-2 = solve Tring 3 (λ u v w. w ⊕ (con (powerN 4) ⊗ u ⊕ con (powerN 8) ⊗ v)) (λ u v w. con (powerN 16) ⊗ (u ⊕ con (powerN 16) ⊗ v ⊕ con (powerN 8) ⊗ w)) tt
+last-2 = solve Tring 3 (λ u v w. thirdsE w u v) (sumE 2 2) tt
 
 -- three phases put one after the other are laid, where p is known to be q
 module _ (p q : ℕ) (e : p ≡ q) (f : ℕ) (h : f ≤ 2) (u v w : Num) (xs : List ℤ) where
   pub puts : {g k : ℕ} {a b c : Num} {l m n : List ℤ} → g ≡ (f + 1) % 3 → k ≡ (g + 1) % 3 → l ≡ shownAt f a xs → m ≡ shownAt g b l → n ≡ shownAt k c m
-      → a ≡ sum q u v w 0 → b ≡ sum q u v w 1 → c ≡ sum q u v w 2 → n ≡ laid p f u v w xs
+      → a ≡ sumOf q u v w 0 → b ≡ sumOf q u v w 1 → c ≡ sumOf q u v w 2 → n ≡ laid f (sumOf p u v w) xs
   unfolding laid
   puts {g} {k} {a} {b} {c} eg ek ea eb ec a0 b1 c2 =
       let f0 : f ≡ (f + 0) % 3 = omega arith in
@@ -71,7 +74,7 @@ module _ (p q : ℕ) (e : p ≡ q) (f : ℕ) (h : f ≤ 2) (u v w : Num) (xs : L
       ec
       ∙ ap (shownAt k c) (eb ∙ ap (shownAt g b) ea)
       ∙ (λ i. shownAt (f2 i) (c2 i) (shownAt (eg i) (b1 i) (shownAt (f0 i) (a0 i) xs)))
-      ∙ ap (λ (m : ℕ). shownAt ((f + 2) % 3) (sum m u v w 2) (shownAt ((f + 1) % 3) (sum m u v w 1) (shownAt ((f + 0) % 3) (sum m u v w 0) xs))) (sym e)
+      ∙ ap (λ (m : ℕ). laid f (sumOf m u v w) xs) (sym e)
 
 -- ---- a turn is quarters back and thirds forward: thirds in d only say which phase shows what
 -- which phase on from the odd one that is
@@ -100,7 +103,7 @@ module _ (p sj sk : ℕ) (X : Seq) where
   abbrev from : ℕ
   from = (p + back) % 3
 
-  named : (i : ℕ) → sum p (X .s0) (turnN (9 * back) (X .s1)) (turnN (9 * forth) (X .s2)) i ≡ phase p sj sk X ((from + i) % 3)
+  named : (i : ℕ) → sumOf p (X .s0) (turnN (9 * back) (X .s1)) (turnN (9 * forth) (X .s2)) i ≡ phase p sj sk X ((from + i) % 3)
   unfolding phase shows
   named i =
       let k : ℕ = ((from + i) % 3 + 2 * p) % 3 in
@@ -113,12 +116,10 @@ module _ (p sj sk : ℕ) (X : Seq) where
       (sym (turn-add (4 * i) (9 * forth) (X .s2)) ∙ turn-same (4 * i + 9 * forth) (4 * k + sj + 11 * sk) (X .s2) (thirds-forth q k i sj sk e ∙ ap (λ (n : ℕ). n % 12) b))
 
   pub laid-shows : {f : ℕ} {u v w : Num} (xs : List ℤ) → length xs ≡ 12 → f ≡ from → u ≡ turnN (9 * 0) (X .s0) → v ≡ turnN (9 * back) (X .s1) → w ≡ turnN (9 * forth) (X .s2)
-      → laid p f u v w xs ≡ flat (phases p sj sk X)
-  unfolding laid phases
+      → laid f (sumOf p u v w) xs ≡ flat (phases p sj sk X)
+  unfolding phases
   laid-shows xs e ef eu ev ew =
-      (λ i. laid p (ef i) ((eu ∙ turn-zero (X .s0)) i) (ev i) (ew i) xs)
-      ∙ (λ i. shownAt ((from + 2) % 3) (named 2 i) (shownAt ((from + 1) % 3) (named 1 i) (shownAt ((from + 0) % 3) (named 0 i) xs)))
-      ∙ all-shown (phase p sj sk X) from xs (omega arith) e
+      (λ j. laid (ef j) (sumOf p ((eu ∙ turn-zero (X .s0)) j) (ev j) (ew j)) xs) ∙ (λ j. laid from (λ i. named i j) xs) ∙ all-shown (phase p sj sk X) from xs (omega arith) e
 
 -- ---- at the faulted board itself nothing is turned: s turns forward and s back
 module _ (p s : ℕ) (X : Seq) where

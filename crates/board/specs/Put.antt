@@ -11,9 +11,10 @@ use Rattle.paper.specs.Phase.{four}
 unfoldable pub shownAt : ℕ → Num → List ℤ → List ℤ
 shownAt ph n = over (4 * ph) (four n)
 
--- i phases on from f, t^(8p) (u + t^(8i) v + t^(4i) w) is shown
-unfoldable pub laid : ℕ → ℕ → Num → Num → Num → List ℤ → List ℤ
-laid p f u v w xs = at 2 (at 1 (at 0 xs))
-  where
-    at : ℕ → List ℤ → List ℤ
-    at i = shownAt ((f + i) % 3) (turnN (8 * p) (u +N turnN (8 * i) v +N turnN (4 * i) w))
+-- of u, v and w, what is shown i phases on from the first
+abbrev pub sumOf : ℕ → Num → Num → Num → ℕ → Num
+sumOf p u v w i = turnN (8 * p) (u +N turnN (8 * i) v +N turnN (4 * i) w)
+
+-- three phases from f on, the i-th with the i-th number
+unfoldable pub laid : ℕ → (ℕ → Num) → List ℤ → List ℤ
+laid f n xs = shownAt ((f + 2) % 3) (n 2) (shownAt ((f + 1) % 3) (n 1) (shownAt ((f + 0) % 3) (n 0) xs))

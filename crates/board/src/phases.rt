@@ -10,14 +10,14 @@ ghost use Rattle.phasor.specs.Bounds.{Addable};
 ghost use Rattle.paper.specs.Bounds.{Plane, EachSeq, mostW};
 ghost use Rattle.paper.specs.Phase.{phases};
 ghost use Rattle.paper.specs.Answer.{flat};
-ghost use Rattle.board.specs.Put.{shownAt, laid};
+ghost use Rattle.board.specs.Put.{shownAt, sumOf, laid};
 use crate::put::phase;
 use paper::Seq;
 use phasor::sum::add;
 use phasor::turns::turn;
 use turn::Num;
 
-// Both are worked out and one is taken: the turns of a network's boards follow no pattern, and a jump would be guessed wrong.
+// With n a literal the compiler works out both and takes one, without a jump: the turns of a network's boards follow no pattern, and a jump would be guessed wrong.
 fn turn_if(on: bool, a: Num, n: usize) -> Num
     requires { ⌜ Addable a ⌝ }
     ensures { λ r. ⌜ r ≡ cond on (turnN n a) a ⌝ }
@@ -57,7 +57,7 @@ fn after(ph: usize) -> usize
 fn three(out: &mut [i64], p: usize, f: usize, u: Num, v: Num, w: Num)
     requires { ⌜ (length (now out) ≡ 12) × (p ≤ 2) × (f ≤ 2) ⌝ }
     requires { ⌜ Within mostW u × Within mostW v × Within mostW w ⌝ }
-    ensures { λ _. ⌜ now (out .exit) ≡ laid p f u v w (now (out .entry)) ⌝ }
+    ensures { λ _. ⌜ now (out .exit) ≡ laid f (sumOf p u v w) (now (out .entry)) ⌝ }
 {
     let g = after(f);
     let h = after(g);

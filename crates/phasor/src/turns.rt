@@ -21,7 +21,7 @@ const TURNS: [[i64; 4]; 12] = [
     [0, 1, 0, -1],
 ];
 
-// Which of the twelve n turns come to. As 16 is 4 more than 12, 16 q + r turns come to 4 q + r: a remainder by sums, where a division by 12 would be compiled to a multiplication.
+// Which of the twelve n turns come to. As 16 is 4 more than 12, 16 q + r turns come to 4 q + r: shifts and sums, where a remainder by 12 would be compiled to a multiplication.
 fn hour(n: usize) -> usize
     ensures { λ r. ⌜ r ≡ n % 12 ⌝ }
 {

@@ -7,8 +7,8 @@ use lib.IntN.{ℤ}
 use Rattle.turn.specs.declared.Num.{Num}
 use Rattle.turn.specs.Number.{_+N_, turnN}
 use Rattle.fits.proofs.Needs.{ForAll, for-all, within-is}
-use Rattle.board.specs.Put.{shownAt, laid}
-use Rattle.board.proofs.Sums.{sum, puts, odd-0, next-0, last-0, odd-1, next-1, last-1, odd-2, next-2, last-2}
+use Rattle.board.specs.Put.{shownAt, sumOf, laid}
+use Rattle.board.proofs.Sums.{puts, odd-0, next-0, last-0, odd-1, next-1, last-1, odd-2, next-2, last-2}
 use borrow.Author.Needs.{needs}
 use Rattle.board.proofs.phases.three.Statement.{statement}
 use Rattle.board.proofs.phases.three.Tie as tie
@@ -23,7 +23,7 @@ all c = let s = c .before .before .before .before .args in c .add2 .ensures ∙ 
 -- the three phases put from f on, where p is known to be q
 put-three : {x y z : Num} {l m n : List ℤ} (d : tie.After-add2) (q : ℕ) → let s = d .before .before .before .before .args in
     s .p ≡ q → l ≡ shownAt (s .f) x (s .out .now) → m ≡ shownAt (d .before .before .before .after .result) y l → n ≡ shownAt (d .before .before .after2 .result) z m
-    → x ≡ sum q (s .u) (s .v) (s .w) 0 → y ≡ sum q (s .u) (s .v) (s .w) 1 → z ≡ sum q (s .u) (s .v) (s .w) 2 → n ≡ laid (s .p) (s .f) (s .u) (s .v) (s .w) (s .out .now)
+    → x ≡ sumOf q (s .u) (s .v) (s .w) 0 → y ≡ sumOf q (s .u) (s .v) (s .w) 1 → z ≡ sumOf q (s .u) (s .v) (s .w) 2 → n ≡ laid (s .f) (sumOf (s .p) (s .u) (s .v) (s .w)) (s .out .now)
 put-three d q e =
     let s = d .before .before .before .before in
     let a = s .args in

@@ -60,7 +60,7 @@ returns c =
     let x3 = toZ-ofZ {w = w64} {z = n .x3} (record { sfits = o .1 .1 .1 .0 .1 }) in
     let ph = s .args .ph in
     let xs = s .args .out .now in
-    (λ i. set (set (set (set xs (4 * ph) (x0 i)) (4 * ph + 1) (x1 i)) (4 * ph + 2) (x2 i)) (4 * ph + 3) (x3 i)) ∙ stored ph n xs (s .pre .1) (s .pre .0)
+    (λ i. set (set (set (set xs (4 * ph) (x0 i)) (4 * ph + 1) (x1 i)) (4 * ph + 2) (x2 i)) (4 * ph + 3) (x3 i)) ∙ stored n ph xs (s .pre .1) (s .pre .0)
 
 pub phase-spec : {M : Type 1} → statement M
 phase-spec =
