@@ -47,7 +47,8 @@ int agree_on_many_labels(void);
 
 /* who is called: the solvers, behind them the writers, and behind them those that look for an earth return */
 enum { OURS, EXACT, DOUBLES, SOLVERS, OUR_WRITER = SOLVERS, EXACT_WRITER, WRITERS, OUR_EARTH = WRITERS, EXACT_EARTH, ALL };
+extern const char *const who_names[ALL];
 void run(int who, const question *q);
-/* the bytes of stack that a call takes, its own frame and all below */
-size_t stack_of(int who, const question *q);
+/* two phases to earth at the last board: the fault with the most to compute */
+void ask(question *q, int shape, int n);
 #endif

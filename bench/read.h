@@ -98,10 +98,10 @@ static inline ohms earthed(ohms z0, ohms zn) {
     return (ohms){(uint16_t)(z0.r + 3 * zn.r), (uint16_t)(z0.x + 3 * zn.x)};
 }
 
-/* The first board with the label among the first n, counted from 1; 0: none. */
+/* The first board with the label among the first n, counted from 1; 0: none. Most labels differ at their end, so that is looked at first. */
 static inline uint16_t find(const board *boards, size_t n, label l) {
     for (size_t i = 0; i < n; i++)
-        if (boards[i].own.first == l.first && boards[i].own.last == l.last)
+        if (boards[i].own.last == l.last && boards[i].own.first == l.first)
             return (uint16_t)(i + 1);
     return 0;
 }

@@ -8,7 +8,7 @@ use native.Mathlib.Omega.{arith}
 use native.Mathlib.Numerals.{add-one}
 use lib.Dec.{eqb}
 use lib.IntN.{ℤ, pos}
-use lib.ListN.{length, length-take, length-drop, getD, set, take, drop, take-append-drop}
+use lib.ListN.{length, length-take, length-drop, length-set, getD, set, take, drop, take-append-drop}
 use lib.Seq.{getD-set-same, getD-set-other}
 use Rattle.lemmas.specs.Over.{over}
 use borrow.Rule.Slice.PartMut.{putMid}
@@ -25,14 +25,17 @@ use Rattle.fits.proofs.Sizes.{Ranged}
 use Rattle.fits.proofs.Fits.{shares-small, theD-small, theI-plane, lift-plane}
 use Rattle.node.specs.declared.Node.{Node}
 use Rattle.node.specs.Node.{startOf, nodeOf, noNode}
-use Rattle.node.proofs.Tables.{in-table}
+use Rattle.node.specs.Rows.{rowOf, nodesIn}
+use Rattle.node.specs.Tables.{nodesOf}
+use Rattle.node.proofs.Rows.{put-row}
+use Rattle.node.proofs.Tables.{table-length, nodes-length, in-table}
 use Rattle.node.proofs.Starts.{starts-nowhere}
 use Rattle.fault.specs.Short.{shortedOf}
 use Rattle.fault.proofs.Asked.{shorted-is, voltage-is}
 use Rattle.chain.proofs.Climb.{mark-is}
 use Rattle.chain.specs.declared.share.Shared.{Shared}
-use Rattle.chain.specs.Share.{noShare, sharedOf, shareFrom}
-use Rattle.chain.proofs.Shares.{share-none, share-next}
+use Rattle.chain.specs.Share.{noShare, sharedOf, shareFrom, sharedIn, withShare}
+use Rattle.chain.proofs.Shares.{share-none, share-next, read-back}
 use Rattle.chain.specs.Carried.{carriedOf}
 use Rattle.board.specs.declared.front.Faulted.{Faulted}
 use Rattle.board.specs.Faulted.{faultedFrom, FaultSmall}
@@ -93,84 +96,105 @@ module _ (q : Asked) where
       ap (λ l. ofBoard q r ++ l) (boards-next (suc r) n ∙ ap (λ m. ofBoards q (suc r) n ++ ofBoard q m) e) ∙ sym (append-assoc (ofBoard q r) (ofBoards q (suc r) n) (ofBoard q (r + suc n)))
 
 -- ---- a turn
-module _ (q : Asked) (nodes : List Node) (n : ℕ) (on : List Bool) (f : Faulted) (p : Passing q nodes n on f) where
+module _ {q : Asked} {nodes : List Node} {n : ℕ} {on : List Bool} {f : Faulted} (p : Passing q nodes n on f) where
   open Asked q using (boards, fault, k)
 
-  -- after j turns
-  pub record Turned (out₀ out : List ℤ) (shares : List Shared) (j : ℕ) : Type 0 where
-    pub shares-are : (i : ℕ) → i < j → getD shares i noShare ≡ sharedOf boards k (suc i)
+  -- after j turns: what the boards passed share stands in their nodes, and the nodes ahead are as they were
+  pub record Turned (out₀ out : List ℤ) (now : List Node) (j : ℕ) : Type 0 where
+    pub places : length now ≡ 256
+    pub passed : (i : ℕ) → i < j → sharedIn (getD now i noNode) ≡ sharedOf boards k (suc i)
+    pub ahead : (i : ℕ) → j ≤ i → getD now i noNode ≡ getD nodes i noNode
     pub written : out ≡ over 13 (ofBoards q 1 j) out₀
 
-  pub no-turn : (out : List ℤ) (shares : List Shared) → Turned out out shares 0
+  pub no-turn : (out : List ℤ) → Turned out out nodes 0
   unfolding ofBoards over
-  no-turn out shares = record { shares-are = λ i h. absurd (omega arith); written = sym (take-append-drop 13 out) }
+  no-turn out =
+      let few = p .ready .few in
+      record {
+        places = ap length (p .nodes-are) ∙ table-length noNode (nodesOf boards) (omega (arith, nodes-length boards 1 (length boards)));
+        passed = λ i h. absurd (omega arith);
+        ahead = λ i h. refl;
+        written = sym (take-append-drop 13 out);
+      }
+
+  pub keeps-length : {out₀ out : List ℤ} {now : List Node} {j : ℕ} → j ≤ n → 13 + 24 * n ≤ length out₀ → Turned out₀ out now j → length out ≡ length out₀
+  keeps-length {out₀} {j = j} h room t = ap length (t .written) ∙ over-length (pos 0) 13 (ofBoards q 1 j) out₀ (omega (arith, boards-size q 1 j))
 
   -- what the tables say of board j + 1
-  pub node-at : (j : ℕ) → j < n → getD nodes j noNode ≡ nodeOf boards (suc j)
-  node-at j h = ap (λ l. getD l j noNode) (p .nodes-are) ∙ in-table boards j (omega (arith, p .all))
+  node-of : (j : ℕ) → j < n → getD nodes j noNode ≡ nodeOf boards (suc j)
+  node-of j h = ap (λ l. getD l j noNode) (p .nodes-are) ∙ in-table boards j (omega (arith, p .all))
 
-  pub mark-at : (j : ℕ) → j < n → getD on j false ≡ oneOf (suc j) (chain boards k)
+  mark-at : (j : ℕ) → j < n → getD on j false ≡ oneOf (suc j) (chain boards k)
   mark-at j h =
       let a = p .all in
       let l = p .ready .few in
-      ap (λ l. getD l j false) (p .marks-are) ∙ mark-is boards nodes (λ i b. node-at i (omega arith)) k j (p .ready .k-to) (omega arith)
+      ap (λ l. getD l j false) (p .marks-are) ∙ mark-is boards nodes (λ i b. node-of i (omega arith)) k j (p .ready .k-to) (omega arith)
 
-  -- its feeder stands before it
-  pub feeder-before : (j : ℕ) → j < n → getD nodes j noNode .feeder ≤ j
-  unfolding nodeOf
-  feeder-before j h = let e = ap (λ (m : Node). m .feeder) (node-at j h) in omega (arith, feeder-earlier boards j)
+  module _ {j : ℕ} (h : j < n) {out₀ out : List ℤ} {now : List Node} (t : Turned out₀ out now j) {node : Node} (d : node ≡ getD now j noNode) where
+    -- its node is not passed yet
+    node-is : node ≡ nodeOf boards (suc j)
+    node-is = d ∙ t .ahead j (omega arith) ∙ node-of j h
 
-  module _ (j : ℕ) (h : j < n) {out₀ out : List ℤ} {shares : List Shared} (t : Turned out₀ out shares j) where
-    pub feeder-is : getD nodes j noNode .feeder ≡ feederOf boards (suc j)
+    feeder-is : node .feeder ≡ feederOf boards (suc j)
     unfolding nodeOf
-    feeder-is = ap (λ (m : Node). m .feeder) (node-at j h)
+    feeder-is = ap (λ (m : Node). m .feeder) node-is
 
-    pub up-is : {feeder : ℕ} {up : Shared} → feeder ≡ getD nodes j noNode .feeder → ((feeder ≡ 0 → ⊥) × (up ≡ getD shares (feeder - 1) noShare)) ⊎ ((feeder ≡ 0) × (up ≡ noShare))
+    -- its feeder stands before it
+    pub feeder-before : node .feeder ≤ j
+    feeder-before = omega (arith, feeder-is, feeder-earlier boards j)
+
+    pub up-is : {feeder : ℕ} {up : Shared} → feeder ≡ node .feeder → ((feeder ≡ 0 → ⊥) × (up ≡ sharedIn (getD now (feeder - 1) noNode))) ⊎ ((feeder ≡ 0) × (up ≡ noShare))
         → up ≡ sharedOf boards k (feederOf boards (suc j))
     up-is {feeder} e (inl (z, u)) =
         let b = feeder-earlier boards j in
         let g = feeder-is in
         let d : suc (feeder - 1) ≡ feederOf boards (suc j) = omega arith in
-        u ∙ t .shares-are (feeder - 1) (omega arith) ∙ ap (sharedOf boards k) d
+        u ∙ t .passed (feeder - 1) (omega arith) ∙ ap (sharedOf boards k) d
     up-is {feeder} e (inr (z, u)) =
         let g = feeder-is in
         let d : 0 ≡ feederOf boards (suc j) = omega arith in
         u ∙ sym (share-none boards k) ∙ ap (sharedOf boards k) d
 
     -- the record is what it is
-    pub share-is : {here : Bool} {node : Node} {head : ℕ} {up s : Shared} → here ≡ getD on j false → node ≡ getD nodes j noNode → head ≡ f .head → up ≡ sharedOf boards k (feederOf boards (suc j))
-        → s ≡ shareFrom here node head up → s ≡ sharedOf boards k (suc j)
-    share-is e d b u c =
-        c ∙ (λ i. shareFrom (e i) (d i) (b i) (u i)) ∙ (λ i. shareFrom (mark-at j h i) (node-at j h i) (heading i) (sharedOf boards k (feederOf boards (suc j)))) ∙ share-next boards k (p .ready .k-from) j
+    pub share-is : {here : Bool} {head : ℕ} {up s : Shared} → here ≡ getD on j false → head ≡ f .head → up ≡ sharedOf boards k (feederOf boards (suc j)) → s ≡ shareFrom here node head up → s ≡ sharedOf boards k (suc j)
+    share-is e b u c = c ∙ (λ i. shareFrom ((e ∙ mark-at j h) i) (node-is i) ((b ∙ heading) i) (u i)) ∙ share-next boards k (p .ready .k-from) j
       where
         heading : f .head ≡ partHead boards k
         heading = ap (λ (g : Faulted). g .head) (p .faulted-is ∙ faulted-is q (p .ready))
 
-    pub turn-fits : getD nodes j noNode .turn ≤ 2816
+    pub turn-fits : node .turn ≤ 2816
     unfolding nodeOf
-    turn-fits = let a = p .all in let e = ap (λ (m : Node). m .turn) (node-at j h) in omega (arith, p .ready .sums-in (suc j) (omega arith) (omega arith) .turns)
+    turn-fits = let a = p .all in let e = ap (λ (m : Node). m .turn) node-is in omega (arith, p .ready .sums-in (suc j) (omega arith) (omega arith) .turns)
 
     pub shares-fit : {s : Shared} → s ≡ sharedOf boards k (suc j) → ShareSmall s
     shares-fit e = let a = p .all in subst ShareSmall (sym e) (share-small q (p .ready) (suc j) (omega arith) (omega arith))
 
-    -- its numbers behind those before
-    pub goes-on : {s : Shared} {here : Bool} {node : Node} {part : List ℤ} (m : ℕ) → m ≡ 24 → length shares ≡ 256 → 13 + 24 * n ≤ length out₀ → s ≡ sharedOf boards k (suc j) → here ≡ getD on j false → node ≡ getD nodes j noNode
-        → part ≡ numbersOf f here node s → Turned out₀ (putMid (13 + 24 * j) m out part) (set shares j s) (j + 1)
-    goes-on {s} {here} {node} {part} m size many room e d b c = record { shares-are = are; written = behind }
+    -- what it shares stands in its node, and its numbers behind those before
+    pub goes-on : {s : Shared} {here : Bool} {part : List ℤ} {now′ : List Node} (m : ℕ) → m ≡ 24 → 13 + 24 * n ≤ length out₀ → s ≡ sharedOf boards k (suc j) → here ≡ getD on j false
+        → now′ ≡ set now j (withShare node s) → part ≡ numbersOf f here node s → Turned out₀ (putMid (13 + 24 * j) m out part) now′ (j + 1)
+    goes-on {s} {here} {part} m size room e o put c =
+        record {
+          places = ap length put ∙ length-set now j (withShare node s) ∙ t .places;
+          passed = λ i l. ap (λ (ns : List Node). sharedIn (getD ns i noNode)) put ∙ are i l;
+          ahead = λ i l. ap (λ (ns : List Node). getD ns i noNode) put ∙ getD-set-other now j i (withShare node s) noNode (λ x. omega arith) ∙ t .ahead i (omega arith);
+          written = behind;
+        }
       where
-        are : (i : ℕ) → i < j + 1 → getD (set shares j s) i noShare ≡ sharedOf boards k (suc i)
+        are : (i : ℕ) → i < j + 1 → sharedIn (getD (set now j (withShare node s)) i noNode) ≡ sharedOf boards k (suc i)
         are i l = go (eqb i j) refl
           where
-            go : (c : Bool) → eqb i j ≡ c → getD (set shares j s) i noShare ≡ sharedOf boards k (suc i)
+            go : (c : Bool) → eqb i j ≡ c → sharedIn (getD (set now j (withShare node s)) i noNode) ≡ sharedOf boards k (suc i)
             go true g =
                 let m = eqb-true i j g in
                 let a = p .all in
                 let x = p .ready .few in
-                ap (λ (r : ℕ). getD (set shares j s) r noShare) m ∙ getD-set-same shares j s noShare (omega arith) ∙ e ∙ ap (λ (r : ℕ). sharedOf boards k (suc r)) (sym m)
-            go false g = let m = eqb-false i j g in getD-set-other shares j i s noShare m ∙ t .shares-are i (omega arith)
+                let y = t .places in
+                ap (λ (r : ℕ). sharedIn (getD (set now j (withShare node s)) r noNode)) m ∙ ap sharedIn (getD-set-same now j (withShare node s) noNode (omega arith)) ∙ read-back node s ∙ e
+                ∙ ap (λ (r : ℕ). sharedOf boards k (suc r)) (sym m)
+            go false g = let m = eqb-false i j g in ap sharedIn (getD-set-other now j i (withShare node s) noNode m) ∙ t .passed i (omega arith)
 
         numbers : part ≡ ofBoard q (suc j)
-        numbers = c ∙ (λ i. numbersOf ((p .faulted-is ∙ faulted-is q (p .ready)) i) ((d ∙ mark-at j h) i) ((b ∙ node-at j h) i) (e i)) ∙ numbers-are q (p .ready) (suc j)
+        numbers = c ∙ (λ i. numbersOf ((p .faulted-is ∙ faulted-is q (p .ready)) i) ((o ∙ mark-at j h) i) (node-is i) (e i)) ∙ numbers-are q (p .ready) (suc j)
 
         before : List ℤ
         before = ofBoards q 1 j
@@ -190,9 +214,10 @@ module _ (q : Asked) (nodes : List Node) (n : ℕ) (on : List Bool) (f : Faulted
             ∙ ap (λ l. over 13 l out₀) (sym (boards-next q 1 j))
             ∙ ap (λ m. over 13 (ofBoards q 1 m) out₀) (sym (add-one j))
 
-    pub keeps-length : {out′ : List ℤ} {shares′ : List Shared} → 13 + 24 * n ≤ length out₀ → Turned out₀ out′ shares′ (j + 1) → length out′ ≡ length out₀
-    keeps-length room u = ap length (u .written) ∙ over-length (pos 0) 13 (ofBoards q 1 (j + 1)) out₀ (omega (arith, boards-size q 1 (j + 1)))
-
 -- a board's part of the buffer
 pub part-length : (a : ℕ) (xs : List ℤ) → a + 24 ≤ length xs → length (take (a + 24 - a) (drop a xs)) ≡ 24
 part-length a xs h = simp (length-take, length-drop) (omega arith)
+
+-- a node put into its row, as the nodes that the rows say
+pub puts : (rows : List (List ℕ)) (j : ℕ) {rows′ : List (List ℕ)} {passed next : Node} → rows′ ≡ set rows j (rowOf passed) → passed ≡ next → nodesIn rows′ ≡ set (nodesIn rows) j next
+puts rows j {passed = passed} e d = ap nodesIn e ∙ put-row rows j passed ∙ ap (set (nodesIn rows) j) d

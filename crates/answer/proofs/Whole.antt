@@ -78,24 +78,6 @@ module _ {q : Asked} {h : Head} {ns : List Node} {f : Fault} {k : ℕ} (p : Pose
   pub earlier-all : FromEarlier ns
   earlier-all = subst FromEarlier (sym (p .nodes-are)) (all-earlier q)
 
-  pub at-is : getD ns (k - 1) noNode ≡ nodeOf (q .boards) (q .k)
-  at-is =
-      let a = p .ready .k-from in
-      let b = p .ready .k-to in
-      let c = p .same-place in
-      let e : suc (k - 1) ≡ q .k = omega arith in
-      ap (λ (l : List Node). getD l (k - 1) noNode) (p .nodes-are) ∙ in-table (q .boards) (k - 1) (omega arith) ∙ ap (nodeOf (q .boards)) e
-
-  pub passing : {at : Node} {g : Faulted} {on : List Bool} {n : ℕ} → n ≡ h .boards → at ≡ getD ns (k - 1) noNode → g ≡ faultedFrom at f → on ≡ marksOf ns k → Passing q ns n on g
-  passing e a b c =
-      record {
-        ready = p .ready;
-        nodes-are = p .nodes-are;
-        all = e ∙ ap (λ (x : Head). x .boards) (p .same-head) ∙ p .ready .count;
-        marks-are = c ∙ ap (marksOf ns) (p .same-place);
-        faulted-is = b ∙ (λ i. faultedFrom ((a ∙ at-is) i) (p .same-fault i));
-      }
-
   -- D and the currents in front, and the boards behind them
   pub whole : {g : Faulted} (out : List ℤ) {part out′ : List ℤ} {n : ℕ} → n ≡ h .boards → g ≡ faultedFrom (nodeOf (q .boards) (q .k)) (q .fault) → part ≡ topOf g → out′ ≡ over 13 (ofBoards q 1 n) (putMid 0 13 out part) → out′ ≡ over 0 (numbers q) out
   unfolding topOf numbers faultCurrents phases flat
@@ -106,12 +88,6 @@ module _ {q : Asked} {h : Head} {ns : List Node} {f : Fault} {k : ℕ} (p : Pose
       ∙ ap (λ (i : ℕ). over 0 (top ++ ofBoards q 1 i) out) m
 
   -- ---- what the calls ask
-  pub in-range : let at = getD ns (k - 1) noNode in (AtMost 4095 (at .z1)) × (AtMost 4095 (at .z2)) × (AtMost 4095 (at .z0)) × (AtMost 1365 (f .zf))
-  unfolding nodeOf
-  in-range =
-      let s = p .ready .sums-in (q .k) (p .ready .k-from) (p .ready .k-to) in
-      (rw at-is (s .sum1), rw at-is (s .sum2), rw at-is (s .sum0), subst (λ (x : Fault). AtMost 1365 (x .zf)) (sym (p .same-fault)) (p .ready .zf-in))
-
   pub k-in : (1 ≤ k) × (k ≤ 256)
   k-in =
       let a = p .ready .k-from in
@@ -120,45 +96,71 @@ module _ {q : Asked} {h : Head} {ns : List Node} {f : Fault} {k : ℕ} (p : Pose
       let d = p .same-place in
       (omega arith, omega arith)
 
-  pub faulted-good : {g : Faulted} → g ≡ faultedFrom (getD ns (k - 1) noNode) f → g ≡ faultedFrom (nodeOf (q .boards) (q .k)) (q .fault)
-  faulted-good e = e ∙ (λ i. faultedFrom (at-is i) (p .same-fault i))
-
-  d-is : {g : Faulted} → g ≡ faultedFrom (getD ns (k - 1) noNode) f → g .d ≡ theD q
-  d-is e = ap (λ (x : Faulted). x .d) (faulted-good e ∙ faulted-is q (p .ready))
-
-  pub d-fits : {g : Faulted} → g ≡ faultedFrom (getD ns (k - 1) noNode) f → SFits w64 (g .d)
-  d-fits e = sfits (fault-small q (p .ready) (faulted-good e) .d-small) (lit≤ tt)
-
-  pub d-positive : {g : Faulted} {d : ℤ} → d ≡ g .d → g ≡ faultedFrom (getD ns (k - 1) noNode) f → Positive d
-  d-positive c e = subst Positive (sym (c ∙ d-is e)) (theD-positive q (p .ready .Z1-there) (p .ready .Z2-there))
-
   pub volts-in : (h .volts ≤ 1000) × (1 ≤ h .unit)
   volts-in = subst (λ (x : Head). (x .volts ≤ 1000) × (1 ≤ x .unit)) (sym (p .same-head)) (p .ready .volts-to, p .ready .unit-from)
 
-  -- ---- the amps
-  abbrev rootOf : Bool → Node → Fault → Head → ℤ → ℕ → Type 0
-  rootOf unearthed at x y d n = Root (factor unearthed (at .z2) (x .kind) * ((y .volts * 1000000) * (y .volts * 1000000))) (natAbs d * (y .unit * y .unit)) n
+  -- ---- the faulted board's node, off its row
+  module _ {at : Node} (a : at ≡ getD ns (k - 1) noNode) where
+    at-is : at ≡ nodeOf (q .boards) (q .k)
+    at-is =
+        let b = p .ready .k-from in
+        let c = p .ready .k-to in
+        let d = p .same-place in
+        let e : suc (k - 1) ≡ q .k = omega arith in
+        a ∙ ap (λ (l : List Node). getD l (k - 1) noNode) (p .nodes-are) ∙ in-table (q .boards) (k - 1) (omega arith) ∙ ap (nodeOf (q .boards)) e
 
-  -- the node says whether there is an earth return, the paper asks whether there is none
-  no-return : (u : Bool) → not (not u) ≡ u
-  no-return true = refl
-  no-return false = refl
+    pub in-range : (AtMost 4095 (at .z1)) × (AtMost 4095 (at .z2)) × (AtMost 4095 (at .z0)) × (AtMost 1365 (f .zf))
+    unfolding nodeOf
+    in-range =
+        let s = p .ready .sums-in (q .k) (p .ready .k-from) (p .ready .k-to) in
+        (rw at-is (s .sum1), rw at-is (s .sum2), rw at-is (s .sum0), subst (λ (x : Fault). AtMost 1365 (x .zf)) (sym (p .same-fault)) (p .ready .zf-in))
 
-  pub amps-good : {g : Faulted} {d : ℤ} {earthed : Bool} (n : ℕ) → d ≡ g .d → earthed ≡ g .earthed → g ≡ faultedFrom (getD ns (k - 1) noNode) f → rootOf (not earthed) (getD ns (k - 1) noNode) f h d n → n ≡ amps q
-  unfolding nodeOf
-  amps-good {g} {d} {earthed} n c b e r =
-      amps-are q (p .ready .Z1-there) (p .ready .Z2-there) (p .ready .sums-in (q .k) (p .ready .k-from) (p .ready .k-to) .sum2) (p .ready .volts-to) (p .ready .unit-from) n
-      (subst (λ (x : ℤ). rootOf un at (q .fault) (q .head) x n) (c ∙ d-is e) (subst (λ (x : Head). rootOf un at (q .fault) x d n) (p .same-head)
-      (subst (λ (x : Fault). rootOf un at x h d n) (p .same-fault) (subst (λ (x : Node). rootOf un x f h d n) at-is (subst (λ (x : Bool). rootOf x (getD ns (k - 1) noNode) f h d n) return-is r)))))
-    where
-      at : Node
-      at = nodeOf (q .boards) (q .k)
+    pub faulted-good : {g : Faulted} → g ≡ faultedFrom at f → g ≡ faultedFrom (nodeOf (q .boards) (q .k)) (q .fault)
+    faulted-good e = e ∙ (λ i. faultedFrom (at-is i) (p .same-fault i))
 
-      un : Bool
-      un = unearthed (q .boards) (q .k)
+    pub passing : {g : Faulted} {on : List Bool} {n : ℕ} → n ≡ h .boards → g ≡ faultedFrom at f → on ≡ marksOf ns k → Passing q ns n on g
+    passing e b c =
+        record {
+          ready = p .ready;
+          nodes-are = p .nodes-are;
+          all = e ∙ ap (λ (x : Head). x .boards) (p .same-head) ∙ p .ready .count;
+          marks-are = c ∙ ap (marksOf ns) (p .same-place);
+          faulted-is = faulted-good b;
+        }
 
-      return-is : not earthed ≡ un
-      return-is = ap not (b ∙ ap (λ (x : Faulted). x .earthed) (faulted-good e ∙ faulted-is q (p .ready))) ∙ no-return un
+    d-is : {g : Faulted} → g ≡ faultedFrom at f → g .d ≡ theD q
+    d-is e = ap (λ (x : Faulted). x .d) (faulted-good e ∙ faulted-is q (p .ready))
+
+    pub d-fits : {g : Faulted} → g ≡ faultedFrom at f → SFits w64 (g .d)
+    d-fits e = sfits (fault-small q (p .ready) (faulted-good e) .d-small) (lit≤ tt)
+
+    pub d-positive : {g : Faulted} {d : ℤ} → d ≡ g .d → g ≡ faultedFrom at f → Positive d
+    d-positive c e = subst Positive (sym (c ∙ d-is e)) (theD-positive q (p .ready .Z1-there) (p .ready .Z2-there))
+
+    -- ---- the amps
+    abbrev rootOf : Bool → Node → Fault → Head → ℤ → ℕ → Type 0
+    rootOf unearthed n x y d m = Root (factor unearthed (n .z2) (x .kind) * ((y .volts * 1000000) * (y .volts * 1000000))) (natAbs d * (y .unit * y .unit)) m
+
+    -- the node says whether there is an earth return, the paper asks whether there is none
+    no-return : (u : Bool) → not (not u) ≡ u
+    no-return true = refl
+    no-return false = refl
+
+    pub amps-good : {g : Faulted} {d : ℤ} {earthed : Bool} (n : ℕ) → d ≡ g .d → earthed ≡ g .earthed → g ≡ faultedFrom at f → rootOf (not earthed) at f h d n → n ≡ amps q
+    unfolding nodeOf
+    amps-good {g} {d} {earthed} n c b e r =
+        amps-are q (p .ready .Z1-there) (p .ready .Z2-there) (p .ready .sums-in (q .k) (p .ready .k-from) (p .ready .k-to) .sum2) (p .ready .volts-to) (p .ready .unit-from) n
+        (subst (λ (x : ℤ). rootOf un there (q .fault) (q .head) x n) (c ∙ d-is e) (subst (λ (x : Head). rootOf un there (q .fault) x d n) (p .same-head)
+        (subst (λ (x : Fault). rootOf un there x h d n) (p .same-fault) (subst (λ (x : Node). rootOf un x f h d n) at-is (subst (λ (x : Bool). rootOf x at f h d n) return-is r)))))
+      where
+        there : Node
+        there = nodeOf (q .boards) (q .k)
+
+        un : Bool
+        un = unearthed (q .boards) (q .k)
+
+        return-is : not earthed ≡ un
+        return-is = ap not (b ∙ ap (λ (x : Faulted). x .earthed) (faulted-good e ∙ faulted-is q (p .ready))) ∙ no-return un
 
 -- ---- two results and two buffers that the contract allows are equal, since there is a question
 pub same-answer : {h : Head} {ns : List Node} {f : Fault} {k : ℕ} (q : Asked) → Posed q h ns f k → (n m : ℕ) → ((p : Asked) → Posed p h ns f k → n ≡ amps p) → ((p : Asked) → Posed p h ns f k → m ≡ amps p) → n ≡ m

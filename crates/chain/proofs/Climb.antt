@@ -1,7 +1,7 @@
 -- The chain of a board, climbed and marked: the turns of the loop, and that it is the paper's chain. Assumes nothing.
 use mathlib.Core.Bool.{Bool, true, false, _||_, or-true, or-false}
 use mathlib.Core.List.{List, [], _∷_}
-use mathlib.Core.Path.{_≡_, refl, _∙_, ap, subst}
+use mathlib.Core.Path.{_≡_, refl, sym, _∙_, ap, subst}
 use Prim.Native.Nat.{ℕ, zero, suc, _-_, _≤_, _<_}
 use native.Mathlib.Omega.{arith}
 use lib.Dec.{eqb}
@@ -28,14 +28,14 @@ pub climb-starts : (nodes : List Node) (k : ℕ) → k ≤ 256 → Climbed nodes
 unfolding marksOf
 climb-starts nodes k h = record { steps = k; enough = omega arith; to = h; places = length-replicate 256 false; marks = refl }
 
-pub climb-goes : (nodes : List Node) (k at : ℕ) (on : List Bool) → FromEarlier nodes → 1 ≤ at → Climbed nodes k on at
-    → Climbed nodes k (set on (at - 1) true) (getD nodes (at - 1) noNode .feeder)
+pub climb-goes : (nodes : List Node) (k at : ℕ) (on : List Bool) {node : Node} → FromEarlier nodes → 1 ≤ at → node ≡ getD nodes (at - 1) noNode → Climbed nodes k on at
+    → Climbed nodes k (set on (at - 1) true) (node .feeder)
 unfolding climb feederIn marked
-climb-goes nodes k zero on f l c = absurd (omega arith)
-climb-goes nodes k (suc i) on f l c = subst (λ (m : ℕ). Climbed nodes k (set on (suc i - 1) true) (getD nodes m noNode .feeder)) here (go (c .steps) (c .enough) (c .marks))
+climb-goes nodes k zero on f l e c = absurd (omega arith)
+climb-goes nodes k (suc i) on {node} f l e c = subst (λ (n : Node). Climbed nodes k (set on (suc i - 1) true) (n .feeder)) (sym (e ∙ here)) (go (c .steps) (c .enough) (c .marks))
   where
-    here : i ≡ suc i - 1
-    here = omega arith
+    here : getD nodes (suc i - 1) noNode ≡ getD nodes i noNode
+    here = let m : suc i - 1 ≡ i = omega arith in ap (λ (m : ℕ). getD nodes m noNode) m
 
     go : (s : ℕ) → suc i ≤ s → marked (climb s (feederIn nodes) (suc i)) on ≡ marksOf nodes k → Climbed nodes k (set on (suc i - 1) true) (getD nodes i noNode .feeder)
     go zero h e = absurd (omega arith)

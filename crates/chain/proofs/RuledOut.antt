@@ -1,12 +1,13 @@
 -- What each contract of this crate rules out: a call that it allows, and an answer that it does not. Assumes nothing.
 use mathlib.Core.Bool.{Bool, true, false}
 use mathlib.Core.List.{List, [], _∷_, _++_}
+use base.Fml.{Lft}
 use Prim.Native.Nat.{ℕ, zero, suc, _+_, _*_, _≤_, zero-le}
 use native.Mathlib.Nat.{le-trans}
 use lib.Dec.{lit≤}
 use lib.IntN.{pos}
 use lib.ListN.{getD, replicate}
-use Rattle.lemmas.proofs.RuledOut.{_↛_, RuledOut, ever, by-equation, bool, list, wholes}
+use Rattle.lemmas.proofs.RuledOut.{_↛_, RuledOut, ever, by-equation, bool, list, wholes, lent}
 use Rattle.turn.specs.Number.{wholeN}
 use Rattle.paper.specs.declared.Seq.{Seq}
 use Rattle.paper.specs.Kind.{ohms}
@@ -16,12 +17,15 @@ use Rattle.paper.specs.Phase.{onlyIf, four}
 use Rattle.paper.proofs.Told.{parts, sequences}
 use Rattle.node.specs.declared.Node.{Node}
 use Rattle.node.specs.Node.{noNode}
+use Rattle.node.specs.Rows.{rowOf, nodeIn, nodesIn}
 use Rattle.chain.specs.declared.share.Shared.{Shared}
-use Rattle.chain.specs.Share.{noShare, shareFrom}
+use Rattle.chain.specs.Share.{noShare, shareFrom, sharedIn, withShare}
 use Rattle.chain.specs.Carried.{carriedOf}
 use Rattle.chain.specs.Marked.{FromEarlier, feederIn, marked, marksOf}
 use Rattle.chain.proofs.share.no_share.Reads as no-share
 use Rattle.chain.proofs.share.share.Reads as share
+use Rattle.chain.proofs.share.shared_in.Reads as shared-in
+use Rattle.chain.proofs.share.with_share.Reads as with-share
 use Rattle.chain.proofs.carried.carried.Reads as carried
 use Rattle.chain.proofs.carried.only_if.Reads as only-if
 use Rattle.chain.proofs.chain.Reads as chain
@@ -41,22 +45,26 @@ shared x1 x2 x0 = record { z1 = ohms 0 x1; z2 = ohms 0 x2; z0 = ohms 0 x0 }
 abbrev wholeSeq : ℕ → ℕ → ℕ → Seq
 wholeSeq i1 i2 i0 = seq (wholeN (pos i1)) (wholeN (pos i2)) (wholeN (pos i0))
 
+abbrev fed-with : ℕ → ℕ → ℕ → ℕ → Node
+fed-with f x1 x2 x0 = record { z1 = ohms 0 x1; z2 = ohms 0 x2; z0 = ohms 0 x0; feeder = f; head = 1; start = 1; turn = 0 }
+
 abbrev fed : ℕ → Node
-fed f = record { z1 = ohms 0 1; z2 = ohms 0 2; z0 = ohms 0 3; feeder = f; head = 1; start = 1; turn = 0 }
+fed f = fed-with f 1 2 3
 
--- two boards, one behind the other
-abbrev two : List Node
-two = fed 0 ∷ fed 1 ∷ replicate 254 noNode
+-- two boards, one behind the other, in their rows
+abbrev two : List (List ℕ)
+two = rowOf (fed 0) ∷ rowOf (fed 1) ∷ replicate 254 (replicate 10 0)
 
-two-earlier : FromEarlier two
+two-earlier : FromEarlier (nodesIn two)
+unfolding nodesIn nodeIn rowOf
 two-earlier = record { earlier = each }
   where
-    none : (n i : ℕ) → getD (replicate n noNode) i noNode .feeder ≤ 0
+    none : (n i : ℕ) → getD (nodesIn (replicate n (replicate 10 0))) i noNode .feeder ≤ 0
     none zero i = lit≤ tt
     none (suc n) zero = lit≤ tt
     none (suc n) (suc i) = none n i
 
-    each : (i : ℕ) → getD two i noNode .feeder ≤ i
+    each : (i : ℕ) → getD (nodesIn two) i noNode .feeder ≤ i
     each zero = lit≤ tt
     each (suc zero) = lit≤ tt
     each (suc (suc i)) = le-trans (none 254 i) zero-le
@@ -76,6 +84,20 @@ pub share-not : RuledOut (share.Pre tt) (ever (share.Post tt)) (
 unfolding shareFrom
 share-not = by-equation (λ a. shareFrom (a .0) (a .1 .0) (a .1 .1 .0) (a .1 .1 .1 .0)) ohms-told (λ a z e s. s) (tt, (tt, (tt, tt))) tt
 
+pub shared-in-not : RuledOut (shared-in.Pre tt) (ever (shared-in.Post tt)) (
+    (fed 1, tt) ↛ noShare  -- nothing_read_back
+    ∷ (fed 1, tt) ↛ shared 1 1 3  -- z1_read_back_for_z2
+    ∷ [])
+unfolding sharedIn
+shared-in-not = by-equation (λ a. sharedIn (a .0)) ohms-told (λ a z e s. s) (tt, (tt, tt)) tt
+
+pub with-share-not : RuledOut (with-share.Pre tt) (ever (with-share.Post tt)) (
+    (fed 1, (shared 4 5 6, tt)) ↛ fed 1  -- sums_stay
+    ∷ (fed 1, (shared 4 5 6, tt)) ↛ fed-with 0 4 5 6  -- feeder_lost
+    ∷ [])
+unfolding withShare rowOf
+with-share-not = by-equation (λ a. withShare (a .0) (a .1 .0)) (λ n. list (rowOf n)) (λ a z e s. s) (tt, (tt, tt)) tt
+
 pub only-if-not : RuledOut (only-if.Pre tt) (ever (only-if.Post tt)) (
     (true, (wholeN (pos 5), tt)) ↛ wholeN (pos 0)  -- lost_where_it_counts
     ∷ (false, (wholeN (pos 5), tt)) ↛ wholeN (pos 5)  -- counted_everywhere
@@ -91,9 +113,10 @@ pub carried-not : RuledOut (carried.Pre tt) (ever (carried.Post tt)) (
 unfolding carriedOf onlyIf
 carried-not = by-equation (λ a. carriedOf (a .0) (a .1 .0) (a .1 .1 .0)) (λ i. wholes (sequences i)) (λ a z e s. s) (tt, (tt, (tt, tt))) tt
 
-pub chain-not : RuledOut (chain.Pre tt) (ever (chain.Post tt)) (
-    (two, (2, tt)) ↛ (false ∷ true ∷ true ∷ replicate 253 false)  -- marked_from_0
-    ∷ (two, (2, tt)) ↛ replicate 256 false  -- nothing_marked
-    ∷ [])
-unfolding marksOf climb feederIn marked
-chain-not = by-equation (λ a. marksOf (a .0) (a .1 .0)) bits (λ a z e s. s) ((lit≤ tt, two-earlier), ((lit≤ tt, two-earlier), tt)) tt
+module _ (κ : Lft) where
+  pub chain-not : RuledOut (chain.Pre (κ, tt)) (ever (chain.Post (κ, tt))) (
+      (lent two, (2, tt)) ↛ (false ∷ true ∷ true ∷ replicate 253 false)  -- marked_from_0
+      ∷ (lent two, (2, tt)) ↛ replicate 256 false  -- nothing_marked
+      ∷ [])
+  unfolding marksOf climb feederIn marked nodesIn nodeIn rowOf
+  chain-not = by-equation (λ a. marksOf (nodesIn (a .0 .now)) (a .1 .0)) bits (λ a z e s. s) ((lit≤ tt, two-earlier), ((lit≤ tt, two-earlier), tt)) tt

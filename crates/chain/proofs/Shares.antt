@@ -8,12 +8,18 @@ use Rattle.paper.specs.declared.Ohms.{Ohms}
 use Rattle.paper.specs.Bytes.{oneOf}
 use Rattle.paper.specs.Chain.{Boards, feederOf, chain, partHead, term1, term2, Z1, Z2, shared1, shared2}
 use Rattle.follows.proofs.Shared.{sum-none, sum-on, sum-off, shared0-none, shared0-own, shared0-feeders, shared-apart}
+use Rattle.node.specs.declared.Node.{Node}
 use Rattle.node.specs.Node.{nodeOf}
 use Rattle.chain.specs.declared.share.Shared.{Shared}
-use Rattle.chain.specs.Share.{noShare, sharedOf, shareFrom}
+use Rattle.chain.specs.Share.{noShare, sharedOf, shareFrom, sharedIn, withShare}
 
 pub made : {a b c a' b' c' : Ohms} → a ≡ a' → b ≡ b' → c ≡ c' → _≡_ {A = Shared} (record { z1 = a; z2 = b; z0 = c }) (record { z1 = a'; z2 = b'; z0 = c' })
 made p q r = λ i. record { z1 = p i; z2 = q i; z0 = r i }
+
+-- what was put into a node is read back
+pub read-back : (node : Node) (s : Shared) → sharedIn (withShare node s) ≡ s
+unfolding sharedIn withShare
+read-back node s = refl
 
 module _ (bs : Boards) (k : ℕ) where
   pub share-none : sharedOf bs k 0 ≡ noShare

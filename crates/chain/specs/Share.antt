@@ -22,3 +22,10 @@ shareFrom on node head up =
       z2 = cond on (node .z2) (up .z2);
       z0 = cond (eqb (node .head) head) (cond on (node .z0) (up .z0)) (ohms 0 0);
     }
+
+-- ---- what a board shares, in place of its sums
+unfoldable pub sharedIn : Node → Shared
+sharedIn node = record { z1 = node .z1; z2 = node .z2; z0 = node .z0 }
+
+unfoldable pub withShare : Node → Shared → Node
+withShare node s = record { z1 = s .z1; z2 = s .z2; z0 = s .z0; feeder = node .feeder; head = node .head; start = node .start; turn = node .turn }

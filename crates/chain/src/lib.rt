@@ -4,20 +4,21 @@ pub mod share;
 
 ghost use mathlib.Core.Path.{_≡_};
 ghost use Prim.Native.Nat.{_≤_};
+ghost use Rattle.node.specs.Rows.{nodesIn};
 ghost use Rattle.chain.specs.Marked.{FromEarlier, marksOf};
-use node::Node;
+use node::node_at;
 
 // The records on the chain of board k, marked.
-pub fn chain(nodes: [Node; 256], k: usize) -> [bool; 256]
-    requires { ⌜ (k ≤ 256) × FromEarlier nodes ⌝ }
-    ensures { λ r. ⌜ r ≡ marksOf nodes k ⌝ }
+pub fn chain(nodes: &[[u16; 10]; 256], k: usize) -> [bool; 256]
+    requires { ⌜ (k ≤ 256) × FromEarlier (nodesIn (now nodes)) ⌝ }
+    ensures { λ r. ⌜ r ≡ marksOf (nodesIn (now (nodes .entry))) k ⌝ }
 {
     let mut on = [false; 256];
     let mut at = k;
     while at != 0 {
         let i = at - 1;
         on[i] = true;
-        let node = nodes[i];
+        let node = node_at(nodes, i);
         at = node.feeder as usize;
     }
     on

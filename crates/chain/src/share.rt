@@ -1,7 +1,7 @@
 // The impedances that each board shares with the faulted one.
 ghost use mathlib.Core.Bool.{cond};
 ghost use mathlib.Core.Path.{_≡_};
-ghost use Rattle.chain.specs.Share.{noShare, shareFrom};
+ghost use Rattle.chain.specs.Share.{noShare, shareFrom, sharedIn, withShare};
 use node::Node;
 use paper::Ohms;
 
@@ -46,4 +46,32 @@ pub fn share(on: bool, node: Node, head: u16, up: Shared) -> Shared
     let on0 = pick(on, own0, up0);
     let z0 = pick(node.head == head, on0, none);
     Shared { z1, z2, z0 }
+}
+
+// What a board shares, read back from its node once the pass has put it there.
+pub fn shared_in(node: Node) -> Shared
+    ensures { λ r. ⌜ r ≡ sharedIn node ⌝ }
+{
+    let z1 = node.z1;
+    let z2 = node.z2;
+    let z0 = node.z0;
+    Shared { z1, z2, z0 }
+}
+
+// A node with what its board shares in place of its sums: nobody needs those any more, and the shares want no table of their own.
+pub fn with_share(node: Node, s: Shared) -> Node
+    ensures { λ r. ⌜ r ≡ withShare node s ⌝ }
+{
+    let z1 = s.z1;
+    let z2 = s.z2;
+    let z0 = s.z0;
+    Node {
+        z1,
+        z2,
+        z0,
+        feeder: node.feeder,
+        head: node.head,
+        start: node.start,
+        turn: node.turn,
+    }
 }

@@ -5,7 +5,7 @@ use mathlib.Core.Path.{refl}
 use Prim.Native.Nat.{ℕ, _+_, _*_}
 use native.Mathlib.Omega.{arith}
 use lib.Dec.{eqb}
-use lib.ListN.{length, replicate, getD}
+use lib.ListN.{length, replicate}
 use base.Fml.{Lft}
 use Rattle.lemmas.specs.Table.{tab}
 use Rattle.lemmas.proofs.RuledOut.{_↛_, RuledOut, ever, by-equation, bool, list, lent}
@@ -16,10 +16,10 @@ use Rattle.paper.specs.declared.Fault.{Fault}
 use Rattle.paper.specs.Bytes.{u8At, u16At, bytesAt, within, Bytes·open}
 use Rattle.paper.specs.Label.{spaces, Label·open}
 use Rattle.paper.specs.Kind.{ohms}
-use Rattle.paper.specs.File.{ohmsAt, headOf, boardOf, faultOf, boardsOf, File·open}
+use Rattle.paper.specs.File.{ohmsAt, headOf, boardOf, faultOf}
 use Rattle.paper.specs.Refusal.{headRanges}
 use Rattle.paper.proofs.Told.{parts}
-use Rattle.node.specs.Tables.{table, emptyBoard}
+use Rattle.node.specs.Tables.{emptyBoard}
 use Rattle.file.proofs.field.pair.Reads as pair
 use Rattle.file.proofs.field.u16_at.Reads as u16-at
 use Rattle.file.proofs.field.in_range.Reads as in-range
@@ -31,7 +31,6 @@ use Rattle.file.proofs.bytes.board_of.Reads as board-of
 use Rattle.file.proofs.bytes.fault_of.Reads as fault-of
 use Rattle.file.proofs.head.head_wrong.Reads as head-wrong
 use Rattle.file.proofs.table.empty_board.Reads as empty-board
-use Rattle.file.proofs.table.decode.Reads as decode
 
 -- ---- answers told apart
 abbrev of-head : Head → ℕ
@@ -64,10 +63,6 @@ fault kind zf = record { zf = four zf; label = bytes 2 12; kind = kind; phase = 
 
 abbrev empty : ℕ → ℕ → Board
 empty kind clock = record { z1 = ohms 0 0; z2 = ohms 0 0; z0 = ohms 0 0; zn = ohms 0 0; label = replicate 12 0; feeder = replicate 12 0; kind = kind; clock = clock }
-
--- a network of one record
-abbrev net : List ℕ
-net = 72 ∷ 68 ∷ 230 ∷ 0 ∷ 100 ∷ 0 ∷ 1 ∷ 0 ∷ bytes 0 44
 
 -- ---- the contracts
 pub pair-not : RuledOut (pair.Pre tt) (ever (pair.Post tt)) (
@@ -145,10 +140,3 @@ module _ (κ : Lft) where
       ∷ [])
   unfolding faultOf Bytes·open
   fault-of-not = by-equation (λ a. faultOf (a .0 .now)) of-fault (λ a z e s. s) (refl, (refl, tt)) tt
-
-  pub decode-not : RuledOut (decode.Pre (κ, tt)) (ever (decode.Post (κ, tt))) (
-      (lent net, (1, tt)) ↛ table emptyBoard []  -- one_board_less
-      ∷ (lent net, (1, tt)) ↛ table emptyBoard (boardOf (bytes 0 43) ∷ [])  -- records_of_43
-      ∷ [])
-  unfolding File·open Bytes·open table
-  decode-not = by-equation (λ a. table emptyBoard (boardsOf (a .0 .now))) (λ t. of-board (getD t 0 emptyBoard)) (λ a z e s. s) ((refl, omega arith, refl), ((refl, omega arith, refl), tt)) tt

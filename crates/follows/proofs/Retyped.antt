@@ -28,7 +28,8 @@ use Rattle.paper.specs.Write.{writeVerdict}
 use Rattle.paper.specs.Return.{labelRows, earthRefusal, earthAt, refusedOr, earthSaid}
 use Rattle.paper.proofs.Typed.{ft, Typed·open}
 use Rattle.follows.proofs.Case.{capital-once}
-use Rattle.follows.proofs.Upper.{upper, uppers, Alike, by-capitals, look-upper, count, earth-upper, tests-upper, order-upper, write-upper, upperFault, upperAsked, answer-upper, after-upper}
+use Rattle.follows.specs.Capitals.{boardInCapitals}
+use Rattle.follows.proofs.Upper.{uppers, Alike, by-capitals, look-upper, count, earth-upper, tests-upper, order-upper, write-upper, upperFault, upperAsked, answer-upper, after-upper}
 
 -- ---- bytes typed in another case: where labels stand a byte may differ by its case, elsewhere none may
 pub record Retyped (typed : ℕ → Bool) (s t : List ℕ) : Type 0 where
@@ -96,7 +97,7 @@ module _ {typed : ℕ → Bool} {s t : List ℕ} (h : ReadAlike typed s t) where
 
 -- what is judged of a record: its mark, and its board in capitals
 abbrev seen : List ℕ → ℕ × Board
-seen s = (markOf s, upper (boardOf s))
+seen s = (markOf s, boardInCapitals (boardOf s))
 
 record-alike : {s t : List ℕ} → ReadAlike inRecord s t → seen s ≡ seen t
 unfolding boardOf inRecord
@@ -128,7 +129,7 @@ records-alike (suc n) {s} {t} h = λ j. record-alike one j ∷ records-alike n o
 boards-seen : (recs : List (List ℕ)) → uppers (decoded recs) ≡ map (λ r. r .1) (map seen recs)
 unfolding decoded
 boards-seen [] = refl
-boards-seen (s ∷ recs) = ap (λ bs. upper (boardOf s) ∷ bs) (boards-seen recs)
+boards-seen (s ∷ recs) = ap (λ bs. boardInCapitals (boardOf s) ∷ bs) (boards-seen recs)
 
 -- 5 to 11 by what is seen of the records: at a place, a mark and the board's tests
 abbrev judgedAt : ℕ → ℕ → List Test → Option Refusal

@@ -25,14 +25,11 @@ use Rattle.paper.specs.Amps.{said, saidSquare, ampsOver, ampsUnder, amps}
 use Rattle.paper.specs.Answer.{flat, ofBoard, ofBoards, numbers, after, accepted, answer}
 use Rattle.paper.specs.Return.{returnOf, earthAt}
 use Rattle.paper.specs.Write.{tooShort, writeRefusal, writeAnswer, writeVerdict}
+use Rattle.follows.specs.Capitals.{boardInCapitals}
 use Rattle.follows.proofs.Case.{formed-capitals, spaces-capitals, same-upper}
 
--- ---- a board with its labels in capitals
-abbrev pub upper : Board → Board
-upper b = record { z1 = b .z1; z2 = b .z2; z0 = b .z0; zn = b .zn; label = capitals (b .label); feeder = capitals (b .feeder); kind = b .kind; clock = b .clock }
-
 abbrev pub uppers : Boards → Boards
-uppers bs = map upper bs
+uppers bs = map boardInCapitals bs
 
 -- boards that differ in the case of their labels and feeders alone
 abbrev pub Alike : Boards → Boards → Type 0
@@ -48,7 +45,7 @@ unfolding lookFrom
 look-upper r l [] = refl
 look-upper r l (b ∷ bs) = λ i. cond (same-upper l (b .label) i) r (look-upper (suc r) l bs i)
 
-holds-upper : (m : Rule) (b : Board) → holds m b ≡ holds m (upper b)
+holds-upper : (m : Rule) (b : Board) → holds m b ≡ holds m (boardInCapitals b)
 unfolding holds
 holds-upper z1≠0 b = refl
 holds-upper z2≠0 b = refl
@@ -56,17 +53,17 @@ holds-upper z1=z2 b = refl
 holds-upper z0=0 b = refl
 holds-upper zn=0 b = refl
 
-rules-upper : (ms : List Rule) (b : Board) → allHold ms b ≡ allHold ms (upper b)
+rules-upper : (ms : List Rule) (b : Board) → allHold ms b ≡ allHold ms (boardInCapitals b)
 unfolding allHold
 rules-upper [] b = refl
 rules-upper (m ∷ ms) b = λ i. holds-upper m b i && rules-upper ms b i
 
-term-upper : (t : Term) (b : Board) → term t b ≡ term t (upper b)
+term-upper : (t : Term) (b : Board) → term t b ≡ term t (boardInCapitals b)
 unfolding term
 term-upper z0-alone b = refl
 term-upper z0+3zn b = refl
 
-zero-upper : (z : Zero) (b : Board) → zeroTerm z b ≡ zeroTerm z (upper b)
+zero-upper : (z : Zero) (b : Board) → zeroTerm z b ≡ zeroTerm z (boardInCapitals b)
 unfolding zeroTerm
 zero-upper (starts t) b = term-upper t b
 zero-upper (goes-on t) b = term-upper t b
@@ -83,14 +80,14 @@ module _ (bs : Boards) where
   us = uppers bs
 
   pub count : length bs ≡ length us
-  count = sym (length-map bs upper)
+  count = sym (length-map bs boardInCapitals)
 
-  at : (r : ℕ) → upper (board bs r) ≡ board us r
-  at r = sym (List·getD-map upper bs (r - 1) noBoard)
+  at : (r : ℕ) → boardInCapitals (board bs r) ≡ board us r
+  at r = sym (List·getD-map boardInCapitals bs (r - 1) noBoard)
 
   feeders : feederOf bs ≡ feederOf us
   unfolding feederOf
-  feeders = fun-ext (λ r. look-upper 1 (board bs r .feeder) (take (r - 1) bs) ∙ (λ i. placeOf (at r i .feeder) (take-map upper (r - 1) bs i)))
+  feeders = fun-ext (λ r. look-upper 1 (board bs r .feeder) (take (r - 1) bs) ∙ (λ i. placeOf (at r i .feeder) (take-map boardInCapitals (r - 1) bs i)))
 
   zeros : zeroOf bs ≡ zeroOf us
   zeros = λ i r. kindOf (at r i .kind) .zero-seq
@@ -142,19 +139,19 @@ module _ (bs : Boards) where
       || (isStart (zeros i (heads i r)) && partOver 4095 (sumΩ (terms0 i) (parts i r)))
 
 -- ---- 6 to 11 of a board behind others
-behind : (before : Boards) (b : Board) → uppers (before ++ (b ∷ [])) ≡ uppers before ++ (upper b ∷ [])
-behind before b = map-append upper before (b ∷ [])
+behind : (before : Boards) (b : Board) → uppers (before ++ (b ∷ [])) ≡ uppers before ++ (boardInCapitals b ∷ [])
+behind before b = map-append boardInCapitals before (b ∷ [])
 
-feeder-upper : (before : Boards) (b : Board) → feederWrong before b ≡ feederWrong (uppers before) (upper b)
+feeder-upper : (before : Boards) (b : Board) → feederWrong before b ≡ feederWrong (uppers before) (boardInCapitals b)
 unfolding feederWrong
 feeder-upper [] b = λ i. not (spaces-capitals (b .feeder) i)
 feeder-upper (e ∷ es) b = λ i. eqb (look-upper 1 (b .feeder) (e ∷ es) i) 0
 
-impedance-upper : (b : Board) → impedanceWrong b ≡ impedanceWrong (upper b)
+impedance-upper : (b : Board) → impedanceWrong b ≡ impedanceWrong (boardInCapitals b)
 unfolding impedanceWrong
 impedance-upper b = λ i. partOver 4095 (b .z1) || partOver 4095 (b .z2) || partOver 4095 (b .z0) || partOver 4095 (b .zn) || not (rules-upper (kindOf (b .kind) .rules) b i)
 
-pub tests-upper : (before : Boards) (b : Board) → boardTests before b ≡ boardTests (uppers before) (upper b)
+pub tests-upper : (before : Boards) (b : Board) → boardTests before b ≡ boardTests (uppers before) (boardInCapitals b)
 unfolding boardTests kindWrong
 tests-upper before b =
     let sums = sum-upper (before ++ (b ∷ [])) (suc (length before)) ∙ (λ i. sumWrong (behind before b i) (suc (count before i))) in
@@ -169,7 +166,7 @@ tests-upper before b =
 
 -- ---- records or boards in their order, and what they are in capitals
 module _ {A B : Type 0} (board : A → Board) (judged : Boards → A → Option Refusal) (board′ : B → Board) (judged′ : Boards → B → Option Refusal) (up : A → B) where
-  pub order-upper : ((a : A) → upper (board a) ≡ board′ (up a)) → ((before : Boards) (a : A) → judged before a ≡ judged′ (uppers before) (up a))
+  pub order-upper : ((a : A) → boardInCapitals (board a) ≡ board′ (up a)) → ((before : Boards) (a : A) → judged before a ≡ judged′ (uppers before) (up a))
       → (before : Boards) (all : List A)
       → inOrder board judged before all ≡ inOrder board′ judged′ (uppers before) (map up all)
   unfolding inOrder
@@ -181,7 +178,7 @@ module _ {A B : Type 0} (board : A → Board) (judged : Boards → A → Option 
 
 boards-upper : (bs : Boards) → boardsRefusal [] bs ≡ boardsRefusal [] (uppers bs)
 unfolding boardRefusal
-boards-upper = order-upper (λ b. b) boardRefusal (λ b. b) boardRefusal upper (λ b. refl) (λ before b i. first (rowsAt (suc (count before i)) noPart (tests-upper before b i))) []
+boards-upper = order-upper (λ b. b) boardRefusal (λ b. b) boardRefusal boardInCapitals (λ b. refl) (λ before b i. first (rowsAt (suc (count before i)) noPart (tests-upper before b i))) []
 
 -- ---- 02, R-1: what writing returns does not depend on case
 pub write-upper : (volts unit room : ℕ) (bs : Boards) → writeVerdict volts unit bs room ≡ writeVerdict volts unit (uppers bs) room

@@ -27,9 +27,9 @@ use denote.Triple.Statement.{Contract, Triple}
 use denote.Triple.Call.{calls-at}
 use denote.Triple.Clauses.{ensured, lasts}
 use denote.Triple.Spec.{tripleOf}
-use Rattle.paper.specs.Chain.{placeOf}
 use Rattle.paper.specs.declared.Board.{Board}
 use Rattle.paper.proofs.Board as T
+use Rattle.label.specs.Places.{speltAt}
 use Rattle.label.proofs.search.find as find
 use Rattle.label.proofs.search.find.Symbol.{name as #find}
 
@@ -58,16 +58,16 @@ module _ {M : Type 1} (𝓤 : URA M) (H : Heap 𝓤) (A : Atoms 𝓤) (W : Given
       nothing ! $ move ! (1 ∷ 0 ∷ []) $ join ! $ nothing ! $ owned ! (Array u8 12) (Is (Array u8 12)) (array-makes 𝓤 H A W u8 (uint-makes 𝓤 H A W w8) 12) lab _ is $ fjoin ! $
       move ! (2 ∷ 0 ∷ []) $ fjoin ! $ move ! (1 ∷ 0 ∷ []) $ join ! $ frame ! $ done !
 
-  said : (r : ℕ) → ent 𝓤 (ensured 𝓤 H A find.ended (find.clauses 𝓤 H A mem run) (κ, tt) (x, (lab, tt)) tt r) (fact 𝓤 (r ≡ placeOf lab (x .now)))
-  said r = exE 𝓤 _ (λ ws. snd∗ 𝓤 (sem 𝓤 H A (lasts find.ended (κ, tt) (x, (lab, tt)) ws)) (fact 𝓤 (r ≡ placeOf lab (x .now))))
+  said : (r : ℕ) → ent 𝓤 (ensured 𝓤 H A find.ended (find.clauses 𝓤 H A mem run) (κ, tt) (x, (lab, tt)) tt r) (fact 𝓤 (r ≡ speltAt lab (x .now)))
+  said r = exE 𝓤 _ (λ ws. snd∗ 𝓤 (sem 𝓤 H A (lasts find.ended (κ, tt) (x, (lab, tt)) ws)) (fact 𝓤 (r ≡ speltAt lab (x .now))))
 
   pub finds : {Γ : List (Item 𝓤)} {E : Env 𝓤 H} {os : List Operand} {d : Place} {rest : Body} {Q : Post 𝓤 H} → Opds (Go {0}) W (Asked ∷ ‵ Lent ∷ Γ) E os (passed ∷ v ∷ [])
-      → ((r : ℕ) → r ≡ placeOf lab (x .now) → r < 2 ^ 64 → Sq W (‵ (flft κ q) ∷ ‵ Lent ∷ Γ) (lands (𝓣 .C) (𝓣 .Λ) E d (vint w64 r) rest Q))
+      → ((r : ℕ) → r ≡ speltAt lab (x .now) → r < 2 ^ 64 → Sq W (‵ (flft κ q) ∷ ‵ Lent ∷ Γ) (lands (𝓣 .C) (𝓣 .Λ) E d (vint w64 r) rest Q))
       → Sq W (‵ (flft κ q) ∷ ‵ Lent ∷ Γ) (runs (𝓣 .C) (𝓣 .Λ) E (seq (call #find os d) rest) Q)
   finds {Γ} {E} {os} {d} {rest} {Q} read k =
       move ! (1 ∷ []) $ use1 W (‵ Lent ⊛ ‵ Lent) (shr-slice-copy 𝓤 H A W (named 0) κ T.the-row .twice x (passed ∷ [])) $ split ! $ move ! (2 ∷ 0 ∷ []) $ use2 W Asked asked $
       calls-at ! (fmOf 𝓤 H (W .laws) 𝓣) (Find 𝓤 H A mem run) known to read (λ u.
       use1 W (later (some (λ (r : ℕ). ((‵ (flft κ q) ⊛ ‵ ftrue) ⊛ ‵ (usize .own r (u ∷ []))) ⊛ raw (ensured 𝓤 H A find.ended (find.clauses 𝓤 H A mem run) (κ, tt) (x, (lab, tt)) tt r)))) (id⊢ 𝓤 _) $ await ! tt $ pick ! (λ r.
-      split ! $ move ! (1 ∷ []) $ use1 W (raw (fact 𝓤 (r ≡ placeOf lab (x .now)))) (said r) $ heard ! (r ≡ placeOf lab (x .now)) (λ e. split ! $ move ! (1 ∷ []) $
+      split ! $ move ! (1 ∷ []) $ use1 W (raw (fact 𝓤 (r ≡ speltAt lab (x .now)))) (said r) $ heard ! (r ≡ speltAt lab (x .now)) (λ e. split ! $ move ! (1 ∷ []) $
       peeks ! usize (Is usize) (shows 𝓤 H A usize) r (u ∷ []) (λ ir. drop ! $ split ! $ move ! (1 ∷ []) $ drop ! $
       subst (λ (w : Val). Sq W (‵ (flft κ q) ∷ ‵ Lent ∷ Γ) (lands (𝓣 .C) (𝓣 .Λ) E d w rest Q)) (sym (ap only (ir .0))) (k r e (ir .1))))))

@@ -7,7 +7,7 @@ use native.Mathlib.Omega.{arith}
 use lib.ListN.{length, getD, set, take, replicate, length-map}
 use Rattle.paper.specs.declared.Board.{Board}
 use Rattle.paper.specs.Label.{Label}
-use Rattle.paper.specs.Chain.{Boards, noBoard, placeOf}
+use Rattle.paper.specs.Chain.{Boards, noBoard}
 use Rattle.label.specs.Places.{padded, placesBy}
 
 -- ---- numbers, then 0
@@ -47,21 +47,21 @@ at-map g [] i l = absurd (not-suc-le-zero l)
 at-map g (y ∷ ys) zero l = refl
 at-map g (y ∷ ys) (suc i) l = at-map g ys i (le-of-suc-le-suc l)
 
--- ---- the first place of one label of each of the first i boards
-module _ (f : Board → Label) (ys : Boards) where
+-- ---- the place of one label of each of the first i boards, by whichever rule it is found
+module _ (place : Label → Boards → ℕ) (f : Board → Label) (ys : Boards) where
   unfoldable pub filled : ℕ → List ℕ
-  filled i = padded 256 (take i (placesBy f ys))
+  filled i = padded 256 (take i (placesBy place f ys))
 
-  by-long : length (placesBy f ys) ≡ length ys
+  by-long : length (placesBy place f ys) ≡ length ys
   unfolding placesBy
-  by-long = length-map ys (λ (b : Board). placeOf (f b) ys)
+  by-long = length-map ys (λ (b : Board). place (f b) ys)
 
-  by-at : (i : ℕ) → i < length ys → getD (placesBy f ys) i 0 ≡ placeOf (f (getD ys i noBoard)) ys
+  by-at : (i : ℕ) → i < length ys → getD (placesBy place f ys) i 0 ≡ place (f (getD ys i noBoard)) ys
   unfolding placesBy
-  by-at i l = at-map (λ (b : Board). placeOf (f b) ys) ys i l
+  by-at i l = at-map (λ (b : Board). place (f b) ys) ys i l
 
-  pub places-at : (i : ℕ) → length ys ≤ 256 → i < length ys → getD (padded 256 (placesBy f ys)) i 0 ≡ placeOf (f (getD ys i noBoard)) ys
-  places-at i m l = padded-at 256 (placesBy f ys) i (omega (arith, by-long)) (omega arith) ∙ by-at i l
+  pub places-at : (i : ℕ) → length ys ≤ 256 → i < length ys → getD (padded 256 (placesBy place f ys)) i 0 ≡ place (f (getD ys i noBoard)) ys
+  places-at i m l = padded-at 256 (placesBy place f ys) i (omega (arith, by-long)) (omega arith) ∙ by-at i l
 
   pub filled-none : replicate 256 0 ≡ filled 0
   unfolding filled
@@ -69,12 +69,12 @@ module _ (f : Board → Label) (ys : Boards) where
 
   pub filled-long : (i : ℕ) → length (filled i) ≡ 256
   unfolding filled
-  filled-long i = padded-long 256 (take i (placesBy f ys))
+  filled-long i = padded-long 256 (take i (placesBy place f ys))
 
-  pub filled-next : (i r : ℕ) → i < length ys → length ys ≤ 256 → r ≡ placeOf (f (getD ys i noBoard)) ys → set (filled i) i r ≡ filled (suc i)
+  pub filled-next : (i r : ℕ) → i < length ys → length ys ≤ 256 → r ≡ place (f (getD ys i noBoard)) ys → set (filled i) i r ≡ filled (suc i)
   unfolding filled
-  filled-next i r l m e = ap (set (padded 256 (take i (placesBy f ys))) i) (e ∙ sym (by-at i l)) ∙ padded-next 256 (placesBy f ys) i (omega (arith, by-long)) (omega arith)
+  filled-next i r l m e = ap (set (padded 256 (take i (placesBy place f ys))) i) (e ∙ sym (by-at i l)) ∙ padded-next 256 (placesBy place f ys) i (omega (arith, by-long)) (omega arith)
 
-  pub filled-all : (i : ℕ) → length ys ≤ i → filled i ≡ padded 256 (placesBy f ys)
+  pub filled-all : (i : ℕ) → length ys ≤ i → filled i ≡ padded 256 (placesBy place f ys)
   unfolding filled
-  filled-all i l = ap (padded 256) (take-all (placesBy f ys) i (omega (arith, by-long)))
+  filled-all i l = ap (padded 256) (take-all (placesBy place f ys) i (omega (arith, by-long)))

@@ -1,6 +1,7 @@
 pub mod FromTheBack
-mod Capitals
 mod Same
+mod SpeltAt
+mod FoundIn
 pub mod PlacesLaws
 mod Filled
 pub mod Apart

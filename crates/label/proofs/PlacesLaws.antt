@@ -10,26 +10,26 @@ use borrow.Author.Tests.{le-leb, lt-leb}
 use Rattle.paper.specs.Label.{Label}
 use Rattle.paper.specs.Chain.{Boards, noBoard, lookFrom, placeOf}
 use Rattle.follows.proofs.Places.{Looked, missing, found, looked, place-most, place-stays, place-behind}
-use Rattle.label.specs.Places.{placesOf}
+use Rattle.label.specs.Places.{placesWith, placesOf}
 use Rattle.label.proofs.Filled.{padded-long, places-at}
 
 module _ (bs : Boards) where
   pub own-long : length (placesOf bs .own) ≡ 256
-  unfolding placesOf
+  unfolding placesOf placesWith
   own-long = padded-long 256 _
 
   pub fed-long : length (placesOf bs .fed) ≡ 256
-  unfolding placesOf
+  unfolding placesOf placesWith
   fed-long = padded-long 256 _
 
   module _ (i : ℕ) (short : length bs ≤ 256) (l : i < length bs) where
     pub own-at : getD (placesOf bs .own) i 0 ≡ placeOf (getD bs i noBoard .label) bs
-    unfolding placesOf
-    own-at = places-at (λ b. b .label) bs i short l
+    unfolding placesOf placesWith
+    own-at = places-at placeOf (λ b. b .label) bs i short l
 
     pub fed-at : getD (placesOf bs .fed) i 0 ≡ placeOf (getD bs i noBoard .feeder) bs
-    unfolding placesOf
-    fed-at = places-at (λ b. b .feeder) bs i short l
+    unfolding placesOf placesWith
+    fed-at = places-at placeOf (λ b. b .feeder) bs i short l
 
 -- the place of a label among the boards before is its place among all, where that is one of theirs
 pub place-before : (l : Label) (before rest : Boards) → placeOf l before ≡ cond (leb (placeOf l (before ++ rest)) (length before)) (placeOf l (before ++ rest)) 0

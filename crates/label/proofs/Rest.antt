@@ -6,31 +6,33 @@ use native.Mathlib.Omega.{arith}
 use lib.Dec.{T as Holds}
 use lib.ListN.{length, getD, drop, drop-of-length-le}
 use lib.Seq.{drop-cons}
-use Rattle.paper.specs.Label.{Label, sameLabel}
-use Rattle.paper.specs.Chain.{Boards, noBoard, lookFrom, placeOf}
-use Rattle.follows.proofs.Places.{look-here, look-there}
+use Rattle.paper.specs.Bytes.{sameBytes}
+use Rattle.paper.specs.Label.{Label}
+use Rattle.paper.specs.Chain.{Boards, noBoard}
+use Rattle.label.specs.Places.{speltFrom, speltAt}
+use Rattle.label.proofs.SpeltAt.{spelt-here, spelt-there}
 
 -- ---- looking from i on
 module _ (l : Label) (ys : Boards) (i : ℕ) where
   -- none of the first i boards has the label
   pub Passed : Type 0
-  Passed = placeOf l ys ≡ lookFrom (suc i) l (drop i ys)
+  Passed = speltAt l ys ≡ speltFrom (suc i) l (drop i ys)
 
-  pub passed-here : i < length ys → Passed → sameLabel l (getD ys i noBoard .label) ≡ true → placeOf l ys ≡ suc i
+  pub passed-here : i < length ys → Passed → sameBytes l (getD ys i noBoard .label) ≡ true → speltAt l ys ≡ suc i
   unfolding Passed
-  passed-here m h e = h ∙ ap (lookFrom (suc i) l) (drop-cons ys i noBoard m) ∙ look-here (suc i) l (getD ys i noBoard) (drop (suc i) ys) e
+  passed-here m h e = h ∙ ap (speltFrom (suc i) l) (drop-cons ys i noBoard m) ∙ spelt-here (suc i) l (getD ys i noBoard) (drop (suc i) ys) e
 
-  pub passed-end : length ys ≤ i → Passed → placeOf l ys ≡ 0
-  unfolding Passed lookFrom
-  passed-end m h = h ∙ ap (lookFrom (suc i) l) (drop-of-length-le ys m)
+  pub passed-end : length ys ≤ i → Passed → speltAt l ys ≡ 0
+  unfolding Passed speltFrom
+  passed-end m h = h ∙ ap (speltFrom (suc i) l) (drop-of-length-le ys m)
 
 pub passed-none : (l : Label) (ys : Boards) → Passed l ys 0
 unfolding Passed
 passed-none l ys = refl
 
-pub passed-there : (l : Label) (ys : Boards) (i : ℕ) → i < length ys → Passed l ys i → sameLabel l (getD ys i noBoard .label) ≡ false → Passed l ys (suc i)
+pub passed-there : (l : Label) (ys : Boards) (i : ℕ) → i < length ys → Passed l ys i → sameBytes l (getD ys i noBoard .label) ≡ false → Passed l ys (suc i)
 unfolding Passed
-passed-there l ys i m h e = h ∙ ap (lookFrom (suc i) l) (drop-cons ys i noBoard m) ∙ look-there (suc i) l (getD ys i noBoard) (drop (suc i) ys) e
+passed-there l ys i m h e = h ∙ ap (speltFrom (suc i) l) (drop-cons ys i noBoard m) ∙ spelt-there (suc i) l (getD ys i noBoard) (drop (suc i) ys) e
 
 -- ---- numbers: a loop starts at 0, and a board takes 42 bytes
 pub start : _≡_ {A = ℕ} 0 0

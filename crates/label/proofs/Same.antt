@@ -1,19 +1,17 @@
--- Twelve bytes compared as two numbers: the bytes are the same exactly if the numbers of the first eight and of the last four are. And labels, by the capitals of these numbers. Assumes nothing.
-use mathlib.Core.Bool.{Bool, false, _&&_, and-assoc, and-false}
+-- Twelve bytes compared as two numbers: the bytes are the same exactly if the numbers of the first eight and of the last four are. Assumes nothing.
+use mathlib.Core.Bool.{Bool, false, _&&_, and-assoc, and-true, and-false}
 use mathlib.Core.List.{List, [], _∷_}
 use mathlib.Core.Path.{_≡_, refl, sym, _∙_, ap, ap₂}
-use Prim.Native.Nat.{ℕ, zero, suc, _≤_}
-use lib.Dec.{eqb, lit≤}
+use Prim.Native.Nat.{ℕ, zero, suc}
+use lib.Dec.{eqb}
 use lib.ListN.{length}
+use borrow.Author.Tests.{eq-eqb, ne-eqb}
 use mir.Syntax.{w8}
 use mir.Val.{Fits}
-use Rattle.lemmas.specs.Bytewise.{littleEndian, bytewise}
+use Rattle.lemmas.specs.Bytewise.{littleEndian}
 use Rattle.lemmas.specs.Table.{tab}
 use Rattle.lemmas.proofs.Little.{same-digit}
-use Rattle.lemmas.proofs.Bytewise.{bytewise-bytes}
-use Rattle.paper.specs.Bytes.{u8At, sameBytes, within}
-use Rattle.paper.specs.Label.{capital, capitals, sameLabel}
-use Rattle.label.proofs.Capitals.{eitherCase, capital-keeps, other-capitals}
+use Rattle.paper.specs.Bytes.{u8At, sameBytes}
 
 -- ---- n bytes from place i on
 abbrev pub Bytes : (ℕ → ℕ) → Type 0
@@ -56,35 +54,14 @@ Twelve l = (length l ≡ 12) × Bytes (u8At l)
 pub twelve : (l : List ℕ) → length l ≡ 12 → tab (u8At l) 0 12 ≡ l
 twelve l h = rw h at (tab-all l)
 
--- ---- a label's capitals, by its words
-abbrev capitalAt : List ℕ → ℕ → ℕ
-capitalAt l i = capital (u8At l i)
-
-abbrev ofWord : ℕ → ℕ
-ofWord w = bytewise 8 capital w
-
-module _ (l : List ℕ) (h : Bytes (u8At l)) where
-  capital-bytes : Bytes (capitalAt l)
-  capital-bytes i = record { fits = capital-keeps (u8At l i) (h i .fits) }
-
-  -- of the n bytes from place i on
-  word-capitals : (i n : ℕ) → n ≤ 8 → ofWord (littleEndian (tab (u8At l) i n)) ≡ littleEndian (tab (capitalAt l) i n)
-  unfolding capital within
-  word-capitals i n k = bytewise-bytes capital refl (u8At l) (λ j. h j .fits) i n 8 k
-
 -- ---- two labels, whose words are p and q, the first eight bytes, and s and t, the last four
 module _ (a b : List ℕ) {p q s t : ℕ} (ha : Twelve a) (hb : Twelve b) (ep : p ≡ first (u8At a)) (eq : q ≡ first (u8At b)) (es : s ≡ last (u8At a)) (et : t ≡ last (u8At b)) where
-  pub by-capitals : (eqb (ofWord p) (ofWord q) && eqb (ofWord s) (ofWord t)) ≡ sameLabel a b
-  unfolding sameLabel
-  by-capitals =
-      same-words (capitalAt a) (capitalAt b) (capital-bytes a (ha .1)) (capital-bytes b (hb .1))
-      (ap ofWord ep ∙ word-capitals a (ha .1) 0 8 (lit≤ tt)) (ap ofWord eq ∙ word-capitals b (hb .1) 0 8 (lit≤ tt))
-      (ap ofWord es ∙ word-capitals a (ha .1) 8 4 (lit≤ tt)) (ap ofWord et ∙ word-capitals b (hb .1) 8 4 (lit≤ tt))
-      ∙ ap₂ sameBytes (ap capitals (twelve a (ha .0))) (ap capitals (twelve b (hb .0)))
+  by-words : (eqb p q && eqb s t) ≡ sameBytes a b
+  by-words = same-words (u8At a) (u8At b) (ha .1) (hb .1) ep eq es et ∙ ap₂ sameBytes (twelve a (ha .0)) (twelve b (hb .0))
 
-  -- they differ in more than case
-  pub other-first : (eitherCase p ≡ eitherCase q → ⊥) → false ≡ sameLabel a b
-  other-first d = sym (ap (λ (e : Bool). e && eqb (ofWord s) (ofWord t)) (other-capitals p q d)) ∙ by-capitals
+  -- their ends tell them apart, or leave it to the first eight
+  pub other-end : (s ≡ t → ⊥) → false ≡ sameBytes a b
+  other-end d = sym (ap (λ (e : Bool). eqb p q && e) (ne-eqb s t d) ∙ and-false (eqb p q)) ∙ by-words
 
-  pub other-last : (eitherCase s ≡ eitherCase t → ⊥) → false ≡ sameLabel a b
-  other-last d = sym (ap (λ (e : Bool). eqb (ofWord p) (ofWord q) && e) (other-capitals s t d) ∙ and-false (eqb (ofWord p) (ofWord q))) ∙ by-capitals
+  pub same-end : s ≡ t → eqb p q ≡ sameBytes a b
+  same-end e = sym (ap (λ (x : Bool). eqb p q && x) (eq-eqb s t e) ∙ and-true (eqb p q)) ∙ by-words

@@ -1,24 +1,60 @@
-// A word's eight bytes as letters, all at once.
+// Labels in capitals: "a to z are read as A to Z". Whoever compares labels in capitals compares bytes.
 ghost use mathlib.Core.Path.{_≡_};
-ghost use lib.Bits.{bitOr};
-ghost use Rattle.lemmas.specs.Bytewise.{bytewise};
-ghost use Rattle.paper.specs.Label.{capital};
+ghost use Rattle.paper.specs.Label.{capital, capitals};
+ghost use Rattle.follows.specs.Capitals.{boardInCapitals};
+use file::field::in_range;
+use paper::Board;
 
-// Each byte's capital. Of each byte only seven bits are added to, so that no sum reaches the next byte: bit 7 of a sum then says whether the byte is at a or past it, or past z.
-// It is that bit of the byte itself which must not be set; and two places down it is the bit of a letter's case.
-pub(crate) fn capitals(w: u64) -> u64
-    ensures { λ r. ⌜ r ≡ bytewise 8 capital w ⌝ }
+fn capital(x: u8) -> u8
+    ensures { λ r. ⌜ r ≡ capital x ⌝ }
 {
-    let seven = w & 0x7F7F_7F7F_7F7F_7F7F;
-    let from_a = seven + 0x1F1F_1F1F_1F1F_1F1F;
-    let past_z = seven + 0x0505_0505_0505_0505;
-    let small = (from_a ^ past_z) & (w ^ 0x8080_8080_8080_8080) & 0x8080_8080_8080_8080;
-    w ^ (small / 4)
+    if in_range(0x61, 0x7A, x as u16) {
+        x - 0x20
+    } else {
+        x
+    }
 }
 
-// Each byte with the bit set that tells a letter from its capital: what still differs then, differs in more than case.
-pub(crate) fn either_case(w: u64) -> u64
-    ensures { λ r. ⌜ r ≡ bytewise 8 (λ x. bitOr x 0x20) w ⌝ }
+// Written out, with no loop and no branch between bytes: the compiler makes vector code of exactly this.
+pub(crate) fn in_capitals(l: [u8; 12]) -> [u8; 12]
+    ensures { λ r. ⌜ r ≡ capitals l ⌝ }
 {
-    w | 0x2020_2020_2020_2020
+    [
+        capital(l[0]),
+        capital(l[1]),
+        capital(l[2]),
+        capital(l[3]),
+        capital(l[4]),
+        capital(l[5]),
+        capital(l[6]),
+        capital(l[7]),
+        capital(l[8]),
+        capital(l[9]),
+        capital(l[10]),
+        capital(l[11]),
+    ]
+}
+
+// Its label and its feeder: all else stays.
+pub(crate) fn board_in_capitals(b: Board) -> Board
+    ensures { λ r. ⌜ r ≡ boardInCapitals b ⌝ }
+{
+    let z1 = b.z1;
+    let z2 = b.z2;
+    let z0 = b.z0;
+    let zn = b.zn;
+    let own = b.label;
+    let fed = b.feeder;
+    let label = in_capitals(own);
+    let feeder = in_capitals(fed);
+    Board {
+        z1,
+        z2,
+        z0,
+        zn,
+        label,
+        feeder,
+        kind: b.kind,
+        clock: b.clock,
+    }
 }

@@ -1,5 +1,5 @@
-// Labels: whether two are the same, and in the modules their letters' case, their form (6) and where one first stands among the boards.
-// Whoever compares two calls `same_label`.
+// Labels: whether two are the same bytes, and in the modules their capitals, their form (6) and where one first stands among the boards.
+// Whoever looks for labels calls `places::places_in`: it alone knows that they are compared in capitals.
 pub mod case;
 pub mod formed;
 pub mod places;
@@ -9,9 +9,7 @@ ghost use mathlib.Core.Path.{_≡_};
 ghost use Rattle.lemmas.specs.Bytewise.{littleEndian};
 ghost use Rattle.lemmas.specs.Table.{tab};
 ghost use Rattle.paper.specs.Bytes.{u8At, sameBytes};
-ghost use Rattle.paper.specs.Label.{spaces, sameLabel};
-use crate::case::capitals;
-use crate::case::either_case;
+ghost use Rattle.paper.specs.Label.{spaces};
 use file::field::pair;
 
 // One load each once compiled, this and the next.
@@ -33,21 +31,14 @@ fn last_four(l: [u8; 12]) -> u64
     a + 65536 * b
 }
 
-// In a search most labels are others, and most of these differ at their end, in more than case: one look tells. Capitals are made of the few that are left.
-pub(crate) fn same_label(a: [u8; 12], b: [u8; 12]) -> bool
-    ensures { λ r. ⌜ r ≡ sameLabel a b ⌝ }
+// In a search most labels are others, and most of these differ at their end: one look tells, and the search goes on.
+pub(crate) fn same_bytes(a: [u8; 12], b: [u8; 12]) -> bool
+    ensures { λ r. ⌜ r ≡ sameBytes a b ⌝ }
 {
-    let s = last_four(a);
-    let t = last_four(b);
-    if either_case(s) != either_case(t) {
+    if last_four(a) != last_four(b) {
         return false;
     }
-    let p = first_eight(a);
-    let q = first_eight(b);
-    if either_case(p) != either_case(q) {
-        return false;
-    }
-    (capitals(p) == capitals(q)) & (capitals(s) == capitals(t))
+    first_eight(a) == first_eight(b)
 }
 
 // By its bytes: a feeder of spaces is no label.

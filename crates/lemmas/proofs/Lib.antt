@@ -10,9 +10,8 @@ pub mod Cancel
 -- how far from 0, and the signed words of the machine
 pub mod Distance
 pub mod Words
--- numbers and their bytes, and what is done to all bytes of a word at once
+-- numbers and their bytes
 pub mod Little
-pub mod Bytewise
 -- tables, and lent parts of a buffer
 pub mod Table
 pub mod Over

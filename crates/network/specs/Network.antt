@@ -9,8 +9,6 @@ use Rattle.paper.specs.Label.{Label}
 use Rattle.paper.specs.File.{headOf, boardsOf}
 use Rattle.paper.specs.Chain.{placeOf}
 use Rattle.paper.specs.Refusal.{headRows, networkRefusal}
-use Rattle.node.specs.Node.{noNode}
-use Rattle.node.specs.Tables.{table, nodesOf}
 use Rattle.paper.specs.declared.Outcome.the-variants.{Accepted, Refused}
 use Rattle.network.specs.declared.Network.{Network}
 
@@ -25,11 +23,11 @@ headNumber net = rowNumber (headRows net)
 
 -- ---- accepted, or refused by the first broken rule
 abbrev pub refusedNetwork : Refusal → Network
-refusedNetwork r = record { outcome = Refused r; head = record { volts = 0; unit = 0; boards = 0 }; nodes = table noNode []; k = 0 }
+refusedNetwork r = record { outcome = Refused r; head = record { volts = 0; unit = 0; boards = 0 }; k = 0 }
 
 -- the board that is asked for is the first with the label
 abbrev pub acceptedNetwork : List ℕ → Label → Network
-acceptedNetwork net l = record { outcome = Accepted; head = headOf net; nodes = table noNode (nodesOf (boardsOf net)); k = placeOf l (boardsOf net) }
+acceptedNetwork net l = record { outcome = Accepted; head = headOf net; k = placeOf l (boardsOf net) }
 
 unfoldable pub judged : Option Refusal → List ℕ → Label → Network
 judged none net l = acceptedNetwork net l

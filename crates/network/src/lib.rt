@@ -1,37 +1,36 @@
-// A network, read: accepted with what each board gets from its chain and where the board stands that is asked for, or refused by the first rule that its bytes break.
+// A network, read: accepted, with what each board gets from its chain in the rows that are lent and with where the board stands that is asked for, or refused by the first rule that its bytes break.
 ghost use mathlib.Core.Path.{_≡_};
+ghost use mathlib.Core.List.{[]};
+ghost use mathlib.Core.Option.{none};
 ghost use Rattle.paper.specs.Bytes.{part};
+ghost use Rattle.paper.specs.File.{boardsOf};
+ghost use Rattle.paper.specs.Refusal.{networkRefusal};
+ghost use Rattle.node.specs.Node.{noNode};
+ghost use Rattle.node.specs.Rows.{nodesIn};
+ghost use Rattle.node.specs.Tables.{table, nodesOf};
 ghost use Rattle.paper.specs.declared.Lent.the-variants.{NetworkBytes};
 ghost use Rattle.network.specs.Network.{refusedNetwork, networkOf, headNumber};
 use file::bytes::head_of;
 use file::field::HD;
 use file::field::u16_at;
 use file::head::head_wrong;
-use file::table::decode;
-use label::places::lookup_all;
-use label::search::lookup;
-use node::Node;
 use paper::Head;
 use paper::Lent;
 use paper::Outcome;
 use paper::Part;
 use paper::Refusal;
 use records::judge;
-use records::sums::no_node;
 
-// The head, the nodes and the place of the board that is asked for (0: none) are those of the network where it is accepted, and empty where it is refused. The boards themselves stay in `read`.
+// The head and the place of the board that is asked for (0: none) are those of the network where it is accepted, and empty where it is refused. The boards themselves stay where they are looked up, and the nodes in the caller's rows.
 pub struct Network {
     pub outcome: Outcome,
     pub head: Head,
-    pub nodes: [Node; 256],
     pub k: u16,
 }
 
 fn refused(number: u8, place: u16, start: usize, len: usize) -> Network
     ensures { λ r. ⌜ r ≡ refusedNetwork (record { part = part NetworkBytes start len; place = place; number = number }) ⌝ }
 {
-    let none = no_node();
-    let nodes = [none; 256];
     let part = Part {
         whose: Lent::NetworkBytes,
         start,
@@ -50,7 +49,6 @@ fn refused(number: u8, place: u16, start: usize, len: usize) -> Network
     Network {
         outcome: Outcome::Refused(why),
         head,
-        nodes,
         k: 0,
     }
 }
@@ -76,9 +74,11 @@ fn head_number(net: &[u8]) -> u8
     0
 }
 
-// The network, and the first of its boards that has the label.
-pub fn read(net: &[u8], label: [u8; 12]) -> Network
+// The network, and the first of its boards that has the label. Rows that say no node are filled with the network's; what they hold after a refusal is nobody's.
+pub fn read(net: &[u8], label: [u8; 12], nodes: &mut [[u16; 10]; 256]) -> Network
+    requires { ⌜ nodesIn (now nodes) ≡ table noNode [] ⌝ }
     ensures { λ r. ⌜ r ≡ networkOf (now (net .entry)) label ⌝ }
+    ensures { λ _. ⌜ (networkRefusal (now (net .entry)) ≡ none → nodesIn (now (nodes .exit)) ≡ table noNode (nodesOf (boardsOf (now (net .entry))))) ⌝ }
 {
     let broken = head_number(net);
     if broken == 1 {
@@ -89,20 +89,15 @@ pub fn read(net: &[u8], label: [u8; 12]) -> Network
     }
     let head = head_of(net);
     let n = head.boards as usize;
-    let boards = decode(net, n);
-    let places = lookup_all(boards, n);
-    let judged = judge(net, n, places);
+    let judged = judge(net, n, label, nodes);
     let number = judged.number;
     let place = judged.place;
     if number != 0 {
         return refused(number, place, 8 + 44 * (place as usize - 1), 44);
     }
-    let nodes = judged.nodes;
-    let k = lookup(boards, n, label);
     Network {
         outcome: Outcome::Accepted,
         head,
-        nodes,
-        k: k as u16,
+        k: judged.asked,
     }
 }

@@ -1,5 +1,9 @@
 // What a board gets from its chain, and the tables of it, as the crates above pass them to each other.
 ghost use mathlib.Core.Path.{_≡_};
+ghost use Prim.Native.Nat.{_<_};
+ghost use lib.ListN.{getD, set};
+ghost use Rattle.node.specs.Node.{noNode};
+ghost use Rattle.node.specs.Rows.{rowOf, nodeIn, nodesIn};
 use paper::Ohms;
 
 // What a board gets from its chain: sums, its feeder (0: none), the head of its part, where its zero sequence starts (0: nowhere, the part has no earth return), its turn.
@@ -19,4 +23,70 @@ pub fn index(place: u16) -> usize
     ensures { λ r. ⌜ r ≡ place ⌝ }
 {
     place as usize
+}
+
+// A node taken from its row.
+fn of_row(row: [u16; 10]) -> Node
+    ensures { λ n. ⌜ n ≡ nodeIn row ⌝ }
+{
+    let z1 = Ohms {
+        r: row[0],
+        x: row[1],
+    };
+    let z2 = Ohms {
+        r: row[2],
+        x: row[3],
+    };
+    let z0 = Ohms {
+        r: row[4],
+        x: row[5],
+    };
+    Node {
+        z1,
+        z2,
+        z0,
+        feeder: row[6],
+        head: row[7],
+        start: row[8],
+        turn: row[9],
+    }
+}
+
+// A node as its row.
+fn row_of(n: Node) -> [u16; 10]
+    ensures { λ row. ⌜ row ≡ rowOf n ⌝ }
+{
+    let z1 = n.z1;
+    let z2 = n.z2;
+    let z0 = n.z0;
+    [
+        z1.r,
+        z1.x,
+        z2.r,
+        z2.x,
+        z0.r,
+        z0.x,
+        n.feeder,
+        n.head,
+        n.start,
+        n.turn,
+    ]
+}
+
+// The node at a place of the lent rows.
+pub fn node_at(rows: &[[u16; 10]; 256], i: usize) -> Node
+    requires { ⌜ i < 256 ⌝ }
+    ensures { λ n. ⌜ n ≡ getD (nodesIn (now (rows .entry))) i noNode ⌝ }
+{
+    let row = rows[i];
+    of_row(row)
+}
+
+// A node put in its place.
+pub fn put_node(rows: &mut [[u16; 10]; 256], i: usize, n: Node)
+    requires { ⌜ i < 256 ⌝ }
+    ensures { λ _. ⌜ now (rows .exit) ≡ set (now (rows .entry)) i (rowOf n) ⌝ }
+{
+    let row = row_of(n);
+    rows[i] = row;
 }

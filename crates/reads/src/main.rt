@@ -3,6 +3,7 @@
 use file::field::u16_at;
 use libc::STDIN_FILENO;
 use libc::STDOUT_FILENO;
+use network::Network;
 use paper::Outcome;
 
 fn say(text: &[u8]) {
@@ -14,9 +15,15 @@ fn number(n: u64) {
     io::print_decimal(STDOUT_FILENO, n);
 }
 
-fn show(net: &[u8]) {
+// The network alone: no board is asked for, and its nodes are left.
+fn read(net: &[u8]) -> Network {
     let nobody = [b' '; 12];
-    let read = network::read(net, nobody);
+    let mut nodes = [[0u16; 10]; 256];
+    network::read(net, nobody, &mut nodes)
+}
+
+fn show(net: &[u8]) {
+    let read = read(net);
     let outcome = read.outcome;
     let head = read.head;
     match outcome {

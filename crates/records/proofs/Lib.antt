@@ -4,5 +4,5 @@ mod Record
 mod Outcomes
 mod Reading
 mod Turn
-pub mod One
+pub mod Said
 mod RuledOut

@@ -1,29 +1,34 @@
 -- What each contract of this crate rules out: a call that it allows, and an answer that it does not. Assumes nothing.
-use mathlib.Core.Bool.{false}
+use mathlib.Core.Bool.{Bool, true, false, _&&_}
 use mathlib.Core.List.{List, [], _∷_, _++_}
-use mathlib.Core.Path.{refl}
+use mathlib.Core.Option.{Option, none, some}
+use mathlib.Core.Path.{_≡_, refl, ap, subst}
 use Prim.Native.Nat.{ℕ}
-use lib.Dec.{T, leb, lit≤}
-use lib.ListN.{replicate}
+use lib.Dec.{T, leb, lit≤, eqb, eqb-refl}
+use lib.ListN.{replicate, set}
 use base.Fml.{Lft}
-use Rattle.lemmas.proofs.RuledOut.{_↛_, RuledOut, ever, by, by-equation, bool, list, lent}
+use Rattle.lemmas.proofs.RuledOut.{_↛_, RuledOut, ever, ends, by-test, by-equation, bool, list, lent}
 use Rattle.paper.specs.declared.Ohms.{Ohms}
 use Rattle.paper.specs.declared.Board.{Board}
 use Rattle.paper.proofs.Told.{parts, small}
 use Rattle.paper.specs.Bytes.{Bytes·open}
 use Rattle.paper.specs.Label.{Label·open}
 use Rattle.paper.specs.Kind.{ohms, Kind·open}
-use Rattle.paper.specs.File.{BD, recordsOf, boardsOf, File·open}
-use Rattle.paper.specs.Rows.{Rows·open}
+use Rattle.paper.specs.File.{BD, recordsOf, boardsOf}
+use Rattle.paper.specs.Answer.{paper}
+use Rattle.paper.specs.declared.Refusal.{Refusal}
+use Rattle.paper.proofs.Typed.{label, Typed·open}
+use Rattle.paper.proofs.Figures.{records, net1}
 use Rattle.paper.specs.Refusal.{recordsRefusal, Refusal·open}
-use Rattle.label.specs.Places.{placesOf}
 use Rattle.node.specs.declared.Node.{Node}
-use Rattle.node.specs.Node.{noNode, OwnSmall, UpSmall, withZero, nodeFrom, nodeOver}
-use Rattle.node.specs.Tables.{table}
+use Rattle.node.specs.Node.{nodeOf, startOf, noNode, OwnSmall, UpSmall, withZero, nodeFrom, nodeOver}
+use Rattle.node.specs.Rows.{rowOf, nodeIn, nodesIn}
+use Rattle.node.specs.Tables.{table, nodesFrom, nodesOf}
+use Rattle.node.proofs.Rows.{empty-rows}
 use Rattle.records.specs.declared.Step.{Step}
 use Rattle.records.specs.declared.Judged.{Judged}
 use Rattle.records.specs.Rules.{fedWrong, broken, numberOf, earlier, stepOf}
-use Rattle.records.proofs.One.{placeSaid, place-is}
+use Rattle.records.specs.Judging.{judgedBy, judgement}
 use Rattle.records.proofs.sums.no_node.Reads as no-node
 use Rattle.records.proofs.sums.node_over.Reads as node-over
 use Rattle.records.proofs.sums.node_from.Reads as node-from
@@ -42,8 +47,8 @@ node z1 z2 z0 f h s t = record { z1 = z1; z2 = z2; z0 = z0; feeder = f; head = h
 abbrev board : ℕ → ℕ → Ohms → Board
 board k c z2 = record { z1 = ohms 0 1; z2 = z2; z0 = ohms 0 1; zn = ohms 0 0; label = 65 ∷ replicate 11 32; feeder = 66 ∷ replicate 11 32; kind = k; clock = c }
 
-abbrev none : Ohms
-none = ohms 0 0
+abbrev zero : Ohms
+zero = ohms 0 0
 
 abbrev j1 : Ohms
 j1 = ohms 0 1
@@ -55,8 +60,8 @@ j2 = ohms 0 2
 abbrev up : Node
 up = node j1 j1 j1 0 1 1 0
 
-abbrev up-none : Node
-up-none = node j1 j1 none 0 1 0 0
+abbrev up-zero : Node
+up-zero = node j1 j1 zero 0 1 0 0
 
 abbrev up-most : Node
 up-most = node (ohms 0 4095) j1 j1 0 1 1 0
@@ -68,8 +73,8 @@ said number n = record { node = n; number = number }
 abbrev net : List ℕ
 net = replicate 6 0 ++ (1 ∷ replicate 45 0)
 
-abbrev placed : ℕ → Judged
-placed r = record { nodes = table noNode []; place = r; number = 5 }
+abbrev judged : ℕ → ℕ → ℕ → Judged
+judged k r n = record { asked = k; place = r; number = n }
 
 -- ---- what the contracts ask
 own-small : (k c x : ℕ) → T (leb c 11) → T (leb x 4095) → OwnSmall (board k c (ohms 0 x))
@@ -80,25 +85,25 @@ up-small x x0 s h h0 = record { up1 = small h; up2 = small tt; up0 = small h0; u
 
 -- ---- the contracts
 pub no-node-not : RuledOut (no-node.Pre tt) (ever (no-node.Post tt)) (
-    tt ↛ node none none none 1 0 0 0  -- feeder_above_record_1
-    ∷ tt ↛ node none none none 0 0 0 1  -- turned_above_record_1
-    ∷ tt ↛ node none none none 0 0 1 0  -- start_above_record_1
+    tt ↛ node zero zero zero 1 0 0 0  -- feeder_above_record_1
+    ∷ tt ↛ node zero zero zero 0 0 0 1  -- turned_above_record_1
+    ∷ tt ↛ node zero zero zero 0 0 1 0  -- start_above_record_1
     ∷ [])
 no-node-not = by-equation (λ a. noNode) (λ n. list (fields n)) (λ a z e s. s) (tt, (tt, (tt, tt))) tt
 
 pub node-over-not : RuledOut (node-over.Pre tt) (ever (node-over.Post tt)) (
-    (node (ohms 4096 0) none none 0 0 0 0, tt) ↛ false  -- sum_of_4096
-    ∷ (node none none (ohms 4096 0) 0 1 1 0, tt) ↛ false  -- z0_sum_untested
+    (node (ohms 4096 0) zero zero 0 0 0 0, tt) ↛ false  -- sum_of_4096
+    ∷ (node zero zero (ohms 4096 0) 0 1 1 0, tt) ↛ false  -- z0_sum_untested
     ∷ [])
 unfolding nodeOver Kind·open
 node-over-not = by-equation (λ a. nodeOver (a .0)) bool (λ a z e s. s) (tt, (tt, tt)) tt
 
 pub node-from-not : RuledOut (node-from.Pre tt) (ever (node-from.Post tt)) (
     (2, (board 4 1 j1, (1, (up, tt)))) ↛ node j2 j2 j1 1 1 1 1  -- kind_4_goes_on
-    ∷ (2, (board 2 0 j1, (1, (up-none, tt)))) ↛ node j2 j2 j1 1 1 1 0  -- missing_return_is_zero
+    ∷ (2, (board 2 0 j1, (1, (up-zero, tt)))) ↛ node j2 j2 j1 1 1 1 0  -- missing_return_is_zero
     ∷ (2, (board 2 0 j2, (1, (up, tt)))) ↛ node j2 j2 j2 1 1 1 0  -- z2_of_z1
     ∷ (2, (board 3 0 j1, (1, (up, tt)))) ↛ node j2 j2 j2 1 2 1 0  -- kind_3_heads_a_part
-    ∷ (2, (board 5 0 j1, (1, (up-none, tt)))) ↛ node j2 j2 none 1 1 0 0  -- kind_5_joins
+    ∷ (2, (board 5 0 j1, (1, (up-zero, tt)))) ↛ node j2 j2 zero 1 1 0 0  -- kind_5_joins
     ∷ [])
 unfolding nodeFrom withZero Kind·open
 node-from-not =
@@ -123,12 +128,50 @@ step-not =
     by-equation (λ a. stepOf (a .0) (a .1 .0) (a .1 .1 .0) (a .1 .1 .1 .0) (a .1 .1 .1 .1 .0) (a .1 .1 .1 .1 .1 .0)) (λ s. list (s .number ∷ fields (s .node))) (λ a z e s. s)
     ((lit≤ tt, up-small 1 1 1 tt tt), ((lit≤ tt, up-small 1 1 1 tt tt), ((lit≤ tt, up-small 1 1 1 tt tt), ((lit≤ tt, up-small 4095 1 1 tt tt), tt)))) tt
 
-module _ (κ : Lft) where
-  pub judge-not : RuledOut (judge.Pre (κ, tt)) (ever (judge.Post (κ, tt))) (
-      (lent net, (1, (placesOf (boardsOf net), tt))) ↛ placed 2  -- counted_from_0
-      ∷ (lent net, (1, (placesOf (boardsOf net), tt))) ↛ placed 0  -- place_from_0
+-- ---- the records judged, with rows that say no node
+abbrev empty : List (List ℕ)
+empty = replicate 256 (replicate 10 0)
+
+abbrev nobody : List ℕ
+nobody = replicate 12 32
+
+-- the nodes of some rows, told
+abbrev all : List Node → ℕ
+all [] = 0
+all (n ∷ ns) = list (list (fields n) ∷ all ns ∷ [])
+
+-- the source's row
+abbrev source : List ℕ
+source = rowOf (nodeOf (boardsOf net1) 1)
+
+-- what rows may hold afterwards: the nodes, where nothing is refused
+abbrev right : Option Refusal → ℕ → ℕ → Bool
+right none x y = eqb x y
+right (some w) x y = true
+
+rightly : (o : Option Refusal) {x y : ℕ} → (o ≡ none → x ≡ y) → T (right o x y)
+rightly none {x} {y} f = subst (λ (m : ℕ). T (eqb x m)) (f refl) (eqb-refl x)
+rightly (some w) f = tt
+
+also : (a b : Bool) → T a → T b → T (a && b)
+also true b x y = y
+also false b x y = x
+
+abbrev verdict : Judged → ℕ
+verdict z = list (z .asked ∷ z .place ∷ z .number ∷ [])
+
+module _ (κ κ′ : Lft) where
+  pub judge-not : RuledOut (judge.Pre (κ, (κ′, tt))) (ends (judge.Post (κ, (κ′, tt)))) (
+      (lent net, (1, (nobody, (lent empty, tt)))) ↛ (judged 0 2 5, (lent net, (1, (nobody, (lent empty, tt)))))  -- counted_from_0
+      ∷ (lent net, (1, (nobody, (lent empty, tt)))) ↛ (judged 0 0 5, (lent net, (1, (nobody, (lent empty, tt)))))  -- place_from_0
+      ∷ (lent net, (1, (nobody, (lent empty, tt)))) ↛ (judged 1 1 5, (lent net, (1, (nobody, (lent empty, tt)))))  -- source_for_nobody
+      ∷ (lent net1, (1, (label "gen", (lent empty, tt)))) ↛ (judged 0 0 0, (lent net1, (1, (label "gen", (lent (set empty 0 source), tt)))))  -- asked_as_typed
+      ∷ (lent net1, (1, (nobody, (lent empty, tt)))) ↛ (judged 0 0 0, (lent net1, (1, (nobody, (lent empty, tt)))))  -- no_nodes_left
+      ∷ (lent net1, (1, (nobody, (lent empty, tt)))) ↛ (judged 0 0 0, (lent net1, (1, (nobody, (lent (set empty 1 source), tt)))))  -- node_one_row_on
       ∷ [])
-  unfolding placeSaid File·open Refusal·open Rows·open
+  unfolding judgement judgedBy paper Typed·open records nodesIn nodeIn rowOf table nodesFrom nodeOf startOf
   judge-not =
-      by (λ z. z .place) (λ a. placeSaid (recordsRefusal [] (recordsOf (a .0 .now)))) (λ a z s. place-is (a .0 .now) z (s .1))
-      ((refl, lit≤ tt, refl, refl), ((refl, lit≤ tt, refl, refl), tt)) tt
+      by-test (λ a z. eqb (verdict (z .0)) (verdict (judgement (a .0 .now) (a .1 .1 .0))) && right (recordsRefusal [] (recordsOf (a .0 .now))) (all (nodesIn (z .1 .1 .1 .1 .0 .now))) (all (table noNode (nodesOf (boardsOf (a .0 .now))))))
+      (λ a z s. also (eqb (verdict (z .0)) (verdict (judgement (a .0 .now) (a .1 .1 .0)))) _
+      (subst (λ (m : ℕ). T (eqb (verdict (z .0)) m)) (ap verdict (s .0)) (eqb-refl (verdict (z .0)))) (rightly (recordsRefusal [] (recordsOf (a .0 .now))) (λ e. ap all (s .1 e))))
+      (((refl, lit≤ tt, refl), empty-rows), (((refl, lit≤ tt, refl), empty-rows), (((refl, lit≤ tt, refl), empty-rows), (((refl, lit≤ tt, refl), empty-rows), (((refl, lit≤ tt, refl), empty-rows), (((refl, lit≤ tt, refl), empty-rows), tt)))))) tt

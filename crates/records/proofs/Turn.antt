@@ -1,25 +1,30 @@
 -- A turn of the reader's loop, in the code's own terms: what it reads is the record's, and so its step goes on or refuses the network. Assumes nothing.
-use mathlib.Core.List.{List}
+use mathlib.Core.List.{List, []}
 use mathlib.Core.Logic.{_⊎_}
-use mathlib.Core.Option.{some}
+use mathlib.Core.Option.{Option, none, some}
 use mathlib.Core.Path.{_≡_, refl, sym, _∙_, ap, subst}
-use Prim.Native.Nat.{ℕ, suc, _+_, _*_, _-_, _≤_, _<_}
+use Prim.Native.Nat.{ℕ, zero, suc, _+_, _*_, _-_, _≤_, _<_}
 use native.Mathlib.Numerals.{add-one}
 use native.Mathlib.Omega.{arith}
 use lib.ListN.{length, getD, set}
 use Rattle.paper.specs.declared.Board.{Board}
 use Rattle.paper.specs.Bytes.{u16At}
-use Rattle.paper.specs.File.{markOf, boardOf, boardsOf}
+use Rattle.paper.specs.declared.Refusal.{Refusal}
+use Rattle.paper.specs.Label.{Label}
+use Rattle.paper.specs.File.{markOf, boardOf, recordsOf, boardsOf}
 use Rattle.paper.specs.Chain.{noBoard, placeOf}
-use Rattle.paper.specs.Refusal.{theRecord}
+use Rattle.paper.specs.Refusal.{recordsRefusal, theRecord}
 use Rattle.label.specs.Places.{placesOf}
 use Rattle.label.proofs.PlacesLaws.{own-at, fed-at}
 use Rattle.node.specs.declared.Node.{Node}
 use Rattle.records.specs.declared.Step.{Step}
 use Rattle.node.specs.Node.{nodeOf, noNode, UpSmall}
 use Rattle.records.specs.Rules.{earlier, stepOf}
-use Rattle.node.specs.Tables.{table, nodesFrom}
-use Rattle.records.specs.Judgement.{Judgement}
+use Rattle.node.specs.Tables.{table, nodesFrom, nodesOf}
+use Rattle.records.specs.declared.Judged.{Judged}
+use Rattle.records.specs.Judging.{judgedBy, judgement}
+use Rattle.follows.proofs.Rows.{some-none}
+use Rattle.follows.proofs.Rows.{some-none}
 use Rattle.node.proofs.Records.{count, bytesOf, boards-count, board-at, mark-at}
 use Rattle.records.proofs.Reading.{Read, read-all, before, feeder, up-is, up-small, step-refused, step-passes}
 
@@ -66,26 +71,31 @@ module _ (net : List ℕ) (i : ℕ) (nodes : List Node) (h : i < count net) (rea
           (subst (λ (m : ℕ). Read net m (set nodes i (stepOf (suc i) (markOf (bytesOf net i)) b own fed up .node))) (sym (add-one i))
           (step-passes net i nodes h read few up up-right (sym (ap (λ (t : Step). t .number) right) ∙ e)))
 
-      pub refuses : (s .number ≡ 0 → ⊥) → Judgement net (record { nodes = nodes; place = i + 1; number = s .number })
-      refuses f =
-          record {
-            all-kept = λ e. absurd (f e);
-            none-placed = λ e. absurd (f e);
-            placed = λ e. omega arith;
-            nodes-before = λ e. let m : i ≡ i + 1 - 1 = omega arith in read .are ∙ ap (λ (k : ℕ). table noNode (nodesFrom (boardsOf net) 1 k)) m;
-            first-broken =
-                λ n e. step-refused net i nodes h read few up up-right n (sym (ap (λ (t : Step). t .number) right) ∙ e)
-                ∙ ap (λ (m : ℕ). some (record { part = theRecord m; place = m; number = suc n })) (sym (add-one i));
-          }
+      refused-by : (m : ℕ) → s .number ≡ suc m → recordsRefusal [] (recordsOf net) ≡ some (record { part = theRecord (suc i); place = suc i; number = suc m })
+      refused-by m z = step-refused net i nodes h read few up up-right m (sym (ap (λ (t : Step). t .number) right) ∙ z)
+
+      -- a number other than 0 refuses the network
+      pub refuses : (l : Label) {k : ℕ} → k ≡ placeOf l (boardsOf net) → (s .number ≡ 0 → ⊥) → _≡_ {A = Judged} (record { asked = k; place = i + 1; number = s .number }) (judgement net l)
+      unfolding judgement judgedBy
+      refuses l {k} e f = go (s .number) refl
+        where
+          go : (m : ℕ) → s .number ≡ m → _≡_ {A = Judged} (record { asked = k; place = i + 1; number = s .number }) (judgedBy (recordsRefusal [] (recordsOf net)) (placeOf l (boardsOf net)))
+          go zero z = absurd (f z)
+          go (suc m) z = (λ j. record { asked = e j; place = add-one i j; number = z j }) ∙ ap (λ (o : Option Refusal). judgedBy o (placeOf l (boardsOf net))) (sym (refused-by m z))
+
+      pub not-kept : {X : Type 0} → (s .number ≡ 0 → ⊥) → recordsRefusal [] (recordsOf net) ≡ none → X
+      not-kept {X} f n = go (s .number) refl
+        where
+          go : (m : ℕ) → s .number ≡ m → X
+          go zero z = absurd (f z)
+          go (suc m) z = absurd (some-none (sym (refused-by m z) ∙ n))
 
 -- ---- and at the end all are kept
-pub all-read : (net : List ℕ) {i : ℕ} {nodes : List Node} → Read net i nodes → count net ≤ i → Judgement net (record { nodes = nodes; place = 0; number = 0 })
-all-read net {i} {nodes} r h =
-    let e : i ≡ length (boardsOf net) = omega (arith, r .to, boards-count net) in
-    record {
-      all-kept = λ z. (read-all net r h, r .are ∙ ap (λ (m : ℕ). table noNode (nodesFrom (boardsOf net) 1 m)) e);
-      none-placed = λ z. refl;
-      placed = λ f. absurd (f refl);
-      nodes-before = λ f. absurd (f refl);
-      first-broken = λ n z. absurd (omega arith);
-    }
+pub all-read : (net : List ℕ) (l : Label) {i k : ℕ} {nodes : List Node} → Read net i nodes → count net ≤ i → k ≡ placeOf l (boardsOf net)
+    → _≡_ {A = Judged} (record { asked = k; place = 0; number = 0 }) (judgement net l) × (nodes ≡ table noNode (nodesOf (boardsOf net)))
+unfolding judgement judgedBy
+all-read net l {i} {k} r h e = (
+  (λ j. record { asked = e j; place = 0; number = 0 }) ∙ ap (λ (o : Option Refusal). judgedBy o (placeOf l (boardsOf net))) (sym (read-all net r h)),
+  let m : i ≡ length (boardsOf net) = omega (arith, r .to, boards-count net) in
+      r .are ∙ ap (λ (m : ℕ). table noNode (nodesFrom (boardsOf net) 1 m)) m,
+)

@@ -1,2 +1,2 @@
-pub mod Judgement
+pub mod Judging
 pub mod Rules

@@ -5,17 +5,24 @@ pub mod sums;
 ghost use mathlib.Core.Path.{_≡_};
 ghost use Prim.Native.Nat.{_+_, _*_, _≤_};
 ghost use lib.ListN.{length};
-ghost use Rattle.paper.specs.File.{headOf, boardsOf};
-ghost use Rattle.label.specs.Places.{placesOf};
-ghost use Rattle.records.specs.Judgement.{Judgement};
+ghost use mathlib.Core.List.{[]};
+ghost use mathlib.Core.Option.{none};
+ghost use Rattle.paper.specs.File.{headOf, recordsOf, boardsOf};
+ghost use Rattle.paper.specs.Refusal.{recordsRefusal};
+ghost use Rattle.node.specs.Node.{noNode};
+ghost use Rattle.node.specs.Rows.{nodesIn};
+ghost use Rattle.node.specs.Tables.{table, nodesOf};
+ghost use Rattle.records.specs.Judging.{judgement};
 use crate::rules::earlier;
 use crate::rules::step;
 use crate::sums::no_node;
 use file::bytes::board_of;
 use file::field::u16_at;
-use label::places::Places;
+use label::places::places_in;
 use node::Node;
 use node::index;
+use node::node_at;
+use node::put_node;
 
 // A record judged: the number of the first broken rule of 5 to 11, or 0 and its node.
 pub(crate) struct Step {
@@ -23,22 +30,27 @@ pub(crate) struct Step {
     pub number: u8,
 }
 
-// The records judged: the number and the place of the first that is refused, or 0, 0 and all nodes.
+// The records judged: the number and the place of the first that is refused, or 0 and 0; and the place of the board that is asked for (0: none).
 pub struct Judged {
-    pub nodes: [Node; 256],
+    pub asked: u16,
     pub place: u16,
     pub number: u8,
 }
 
-// A record is decoded again where it is judged: to pass the table of them would copy it.
-pub fn judge(net: &[u8], n: usize, places: Places) -> Judged
-    requires { ⌜ (n ≡ headOf (now net) .boards) × (n ≤ 256) × (length (now net) ≡ 8 + 44 * n) × (places ≡ placesOf (boardsOf (now net))) ⌝ }
-    ensures { λ r. ⌜ Judgement (now (net .entry)) r ⌝ }
+// Rows that say no node are filled with the nodes of all records. What they hold where a record is refused is nobody's.
+// A record is decoded again where it is judged: to pass the table of boards would copy it.
+pub fn judge(net: &[u8], n: usize, label: [u8; 12], nodes: &mut [[u16; 10]; 256]) -> Judged
+    requires { ⌜ (n ≡ headOf (now net) .boards) × (n ≤ 256) × (length (now net) ≡ 8 + 44 * n) ⌝ }
+    requires { ⌜ nodesIn (now nodes) ≡ table noNode [] ⌝ }
+    ensures { λ r. ⌜ r ≡ judgement (now (net .entry)) label ⌝ }
+    ensures { λ _. ⌜ (recordsRefusal [] (recordsOf (now (net .entry))) ≡ none → nodesIn (now (nodes .exit)) ≡ table noNode (nodesOf (boardsOf (now (net .entry))))) ⌝ }
 {
-    let none = no_node();
+    let found = places_in(net, n, label);
+    let asked = found.asked;
+    let places = found.places;
     let own = places.own;
     let fed = places.fed;
-    let mut nodes = [none; 256];
+    let none = no_node();
     let mut i: usize = 0;
     while i < n {
         let r = i + 1;
@@ -51,23 +63,23 @@ pub fn judge(net: &[u8], n: usize, places: Places) -> Judged
         let feeder = earlier(r, theirs);
         let mut up = none;
         if feeder != 0 {
-            up = nodes[feeder - 1];
+            up = node_at(nodes, feeder - 1);
         }
         let s = step(r, mark, b, mine, theirs, up);
         let number = s.number;
         if number != 0 {
             return Judged {
-                nodes,
+                asked,
                 place: r as u16,
                 number,
             };
         }
         let node = s.node;
-        nodes[i] = node;
+        put_node(nodes, i, node);
         i += 1;
     }
     Judged {
-        nodes,
+        asked,
         place: 0,
         number: 0,
     }

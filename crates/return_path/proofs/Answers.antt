@@ -24,6 +24,7 @@ use Rattle.follows.proofs.Places.{place-most}
 use Rattle.follows.proofs.Spelt.{all-bytes}
 use Rattle.node.specs.declared.Node.{Node}
 use Rattle.node.specs.Node.{startOf, nodeOf, noNode}
+use Rattle.node.specs.Tables.{table, nodesOf}
 use Rattle.node.proofs.Tables.{in-table}
 use Rattle.network.specs.declared.Network.{Network}
 use Rattle.network.specs.Network.{networkOf}
@@ -92,9 +93,9 @@ module _ (net : List ℕ) (l : Label) where
       pub in-nodes : k - 1 < 256
       in-nodes = omega (arith, among, from-1, network-boards net w read taken, network-few net w read taken)
 
-      pub says-node : {s : Said} → s ≡ saidBy (getD (g .nodes) (k - 1) noNode) → s ≡ earthSaid net l
-      says-node e =
-          e ∙ ap (λ (ns : List Node). saidBy (getD ns (k - 1) noNode)) (ap (λ (x : Network). x .nodes) (network-kept net w read taken .1))
+      pub says-node : {s : Said} {ns : List Node} → (networkRefusal net ≡ none → ns ≡ table noNode (nodesOf bs)) → s ≡ saidBy (getD ns (k - 1) noNode) → s ≡ earthSaid net l
+      says-node rows e =
+          e ∙ ap (λ (ns : List Node). saidBy (getD ns (k - 1) noNode)) (rows kept)
           ∙ ap saidBy (in-table bs (k - 1) (omega (arith, among, from-1)) ∙ ap (nodeOf bs) up)
           ∙ node-says bs k from-1
           ∙ ap (earthAt bs) (k-at twelve)

@@ -8,6 +8,7 @@ use file::field::label_in;
 use network::read;
 use node::Node;
 use node::index;
+use node::node_at;
 use paper::EarthReturn;
 use paper::Lent;
 use paper::Outcome;
@@ -48,8 +49,9 @@ fn of_node(node: Node) -> EarthReturn
 pub fn earth(net: &[u8], label: &[u8]) -> EarthReturn
     ensures { λ r. ⌜ said r ≡ earthSaid (now (net .entry)) (now (label .entry)) ⌝ }
 {
+    let mut nodes = [[0u16; 10]; 256];
     let wanted = label_in(label, LABEL, 0);
-    let network = read(net, wanted);
+    let network = read(net, wanted, &mut nodes);
     let outcome = network.outcome;
     if let Outcome::Refused(why) = outcome {
         return EarthReturn::Refused(why);
@@ -59,8 +61,6 @@ pub fn earth(net: &[u8], label: &[u8]) -> EarthReturn
     if (len != LABEL) | (k == 0) {
         return unknown(len);
     }
-    let nodes = network.nodes;
-    let i = k - 1;
-    let node = nodes[i];
+    let node = node_at(&nodes, k - 1);
     of_node(node)
 }

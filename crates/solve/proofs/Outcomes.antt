@@ -22,6 +22,9 @@ use Rattle.paper.specs.Phase.{asked}
 use Rattle.paper.specs.Amps.{amps}
 use Rattle.paper.specs.Answer.{numbers, accepted, refused}
 use Rattle.follows.proofs.Given.{question}
+use Rattle.node.specs.declared.Node.{Node}
+use Rattle.node.specs.Node.{noNode}
+use Rattle.node.specs.Tables.{table, nodesOf}
 use Rattle.network.specs.declared.Network.{Network}
 use Rattle.paper.specs.declared.Outcome.the-variants.{Accepted, Refused}
 use Rattle.network.specs.Network.{acceptedNetwork, networkOf}
@@ -80,13 +83,14 @@ module _ {net flt : List ℕ} {room : ℕ} {g : Network} {a : Question} (b : Ask
     pub none-broken : refusal net flt room ≡ none
     none-broken = by-fault ∙ as-kept .0
 
-    pub as-posed : Posed (asked net flt) (g .head) (g .nodes) (a .fault) (a .k)
+    -- the rows are filled where the network is accepted
+    pub as-posed : {nodes : List Node} → (networkRefusal net ≡ none → nodes ≡ table noNode (nodesOf (boardsOf net))) → Posed (asked net flt) (g .head) nodes (a .fault) (a .k)
     unfolding asked
-    as-posed =
+    as-posed filled =
         record {
           ready = accepted-ready net flt room none-broken;
           same-head = ap (λ (x : Network). x .head) (as-read .1);
-          nodes-are = ap (λ (x : Network). x .nodes) (as-read .1);
+          nodes-are = filled (as-read .0);
           same-fault = ap (λ (x : Question). x .fault) (as-told ∙ as-kept .1);
           same-place = ap (λ (x : Question). x .k) (as-told ∙ as-kept .1);
         }

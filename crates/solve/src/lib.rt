@@ -13,19 +13,20 @@ use paper::Outcome;
 use verdict::accepted;
 use verdict::refused;
 
-// The label is looked for while the network is read, so that no table of boards is handed on. Nothing is written until both are accepted: the first look at the buffer is for its length.
+// The call keeps one table, the nodes in rows that it lends: reading fills them, answering works in them. The label is looked for while the network is read, so that no table of boards is handed on.
+// Nothing is written until both are accepted: the first look at the buffer is for its length.
 pub fn solve(net: &[u8], flt: &[u8], buffer: &mut [i64]) -> Answer
     ensures { λ r. ⌜ r ≡ verdict (now (net .entry)) (now (flt .entry)) (length (now (buffer .entry))) ⌝ }
     ensures { λ _. ⌜ now (buffer .exit) ≡ written (now (net .entry)) (now (flt .entry)) (now (buffer .entry)) ⌝ }
 {
+    let mut nodes = [[0u16; 10]; 256];
     let label = label_in(flt, FAULT, FAULT_LABEL);
-    let network = read(net, label);
+    let network = read(net, label, &mut nodes);
     let outcome = network.outcome;
     if let Outcome::Refused(why) = outcome {
         return refused(why);
     }
     let head = network.head;
-    let nodes = network.nodes;
     let n = head.boards;
     let question = ask(flt, network.k, n as usize, buffer.len());
     let heard = question.outcome;
@@ -34,6 +35,6 @@ pub fn solve(net: &[u8], flt: &[u8], buffer: &mut [i64]) -> Answer
     }
     let fault = question.fault;
     let k = question.k;
-    let amps = answer(head, nodes, fault, k as usize, buffer);
+    let amps = answer(head, &mut nodes, fault, k as usize, buffer);
     accepted(amps, k, n)
 }

@@ -3,7 +3,7 @@ use mathlib.Core.Bool.{Bool, true, false, not, _&&_}
 use mathlib.Core.List.{List, [], _++_}
 use mathlib.Core.Option.{Option, none, some}
 use mathlib.Core.Path.{_≡_, refl, sym, _∙_, ap}
-use Prim.Native.Nat.{ℕ, zero, suc, min, _+_, _*_, _≤_, _<_}
+use Prim.Native.Nat.{ℕ, min, _+_, _*_, _≤_, _<_}
 use native.Mathlib.Decide.{decLe}
 use native.Mathlib.Omega.{arith}
 use lib.Dec.{leb}
@@ -16,22 +16,22 @@ use Rattle.paper.specs.declared.Head.{Head}
 use Rattle.paper.specs.declared.Refusal.{Refusal}
 use Rattle.paper.specs.declared.Written.{Written}
 use Rattle.paper.specs.Bytes.{within}
+use Rattle.paper.specs.Label.{Label}
 use Rattle.paper.specs.Rows.{first, _then_}
-use Rattle.paper.specs.File.{headOf, fileSize, recordsOf, boardsOf}
+use Rattle.paper.specs.File.{headOf, fileSize, recordsOf}
 use Rattle.paper.specs.Chain.{Boards}
 use Rattle.paper.specs.Refusal.{headRanges, noPart, boardsRefusal, recordsRefusal}
 use Rattle.paper.specs.Write.{tooShort, headBytes, boardsBytes, headFor, fileOf, writeRefusal, writeAnswer, writeVerdict, fills, writeLeaves}
 use Rattle.follows.proofs.Accepted.{head-ranges}
 use Rattle.node.specs.Tables.{table, emptyBoard}
 use Rattle.records.specs.declared.Judged.{Judged}
-use Rattle.records.specs.Judgement.{Judgement}
+use Rattle.records.specs.Judging.{judgement}
+use Rattle.records.proofs.Said.{first-broken, all-kept as records-kept}
 use Rattle.decimal.specs.Wrote.{Room, Wrote}
 use Rattle.decimal.proofs.Writes.{wrote-length}
 use Rattle.writer.specs.Given.{Given}
 use Rattle.writer.specs.RoundTrip.{AllTyped, unshown}
-use Rattle.label.specs.declared.places.Places.{Places}
-use Rattle.label.specs.Places.{placesOf}
-use Rattle.writer.proofs.File.{file-long, file-head, file-boards}
+use Rattle.writer.proofs.File.{file-long, file-head}
 use Rattle.writer.proofs.Alike.{boards-refusal}
 use Rattle.writer.proofs.InType.{all-take}
 
@@ -131,15 +131,14 @@ module _ (volts unit n room : ℕ) (t : List Board) where
         len-fits l = omega (arith, wrote-length (fits l) w, l, len-is, few)
 
         -- what `judge` asks
-        pub judged-as : {p : Places} → p ≡ placesOf given → (n ≡ headOf file .boards) × (n ≤ 256) × (length file ≡ 8 + 44 * n) × (p ≡ placesOf (boardsOf file))
-        judged-as e = (
+        pub judged-as : (n ≡ headOf file .boards) × (n ≤ 256) × (length file ≡ 8 + 44 * n)
+        judged-as = (
           sym (ap (λ (s : List ℕ). headOf s .boards) file-is ∙ ap (λ (h : Head). h .boards) (file-head volts unit given all-typed v u few-given) ∙ many),
           few,
           ap length file-is ∙ file-long volts unit given all-typed ∙ ap fileSize many,
-          e ∙ ap placesOf (sym (ap boardsOf file-is ∙ file-boards volts unit given all-typed v u few-given)),
         )
 
-        module _ {j : Judged} (judgement : Judgement file j) where
+        module _ (l : Label) {j : Judged} (j-is : j ≡ judgement file l) where
           by-file : {o : Option Refusal} → recordsRefusal [] (recordsOf file) ≡ o → (bs : Boards) → Given bs n t → writeRefusal volts unit bs room ≡ unshown o then tooShort n room
           by-file e bs g =
               behind-3 bs g ∙ ap (λ (o : Option Refusal). o then tooShort n room) (boards-refusal volts unit given all-typed v u few-given)
@@ -149,15 +148,11 @@ module _ (volts unit n room : ℕ) (t : List Board) where
           -- 6 to 11
           pub wrong-board : (j .number ≡ 0 → ⊥) → Refuses (because (j .number) (j .place))
           unfolding unshown _then_
-          wrong-board f bs g = go (j .number) refl
-            where
-              go : (m : ℕ) → j .number ≡ m → writeRefusal volts unit bs room ≡ some (because (j .number) (j .place))
-              go zero z = absurd (f z)
-              go (suc m) z = by-file (judgement .first-broken m z) bs g ∙ ap (λ (i : ℕ). some (because i (j .place))) (sym z)
+          wrong-board f bs g = by-file (first-broken file l j-is f) bs g
 
           only-room : j .number ≡ 0 → (bs : Boards) → Given bs n t → writeRefusal volts unit bs room ≡ tooShort n room
           unfolding unshown _then_
-          only-room z bs g = by-file (judgement .all-kept z .0) bs g
+          only-room z bs g = by-file (records-kept file l j-is z) bs g
 
           -- 20
           pub no-room : j .number ≡ 0 → room < len → Refuses (because 20 0)

@@ -8,8 +8,8 @@ ghost use Rattle.paper.specs.Write.{writeVerdict, writeLeaves};
 ghost use Rattle.writer.specs.Given.{Given};
 use crate::lay::put_file;
 use decimal::put_bytes;
+use file::field::SPACE;
 use file::head::head_wrong;
-use label::places::lookup_all;
 use paper::Board;
 use paper::Head;
 use paper::Lent;
@@ -70,8 +70,9 @@ pub(crate) fn write_table(
     }
     let mut file = page();
     let len = put_file(&mut file, head, boards);
-    let places = lookup_all(boards, n);
-    let judged = judge(&file[..len], n, places);
+    let mut nodes = [[0u16; 10]; 256];
+    let nobody = [SPACE; 12];
+    let judged = judge(&file[..len], n, nobody, &mut nodes);
     let number = judged.number;
     let place = judged.place;
     if number != 0 {

@@ -1,14 +1,11 @@
 -- `network::read` meets its contract: the head is refused, a record is refused, or all are kept. Assumes nothing.
-use mathlib.Core.Path.{_≡_, sym, _∙_, ap}
-use Prim.Native.Nat.{ℕ, _+_, _*_, _≤_}
+use mathlib.Core.Path.{sym, _∙_, ap}
+use Prim.Native.Nat.{ℕ, _+_, _*_}
 use native.Mathlib.Omega.{arith}
-use lib.ListN.{take, length-take}
 use Rattle.paper.specs.declared.Head.{Head}
-use Rattle.follows.proofs.Places.{place-most}
-use Rattle.node.proofs.Records.{count}
-use Rattle.label.specs.Places.{placesOf}
+use Rattle.records.proofs.Said.{placed}
 use Rattle.network.proofs.Head.{kept-head}
-use Rattle.network.proofs.Whole.{read-short, read-head, read-refused, read-accepted, first-boards}
+use Rattle.network.proofs.Whole.{read-short, read-head, read-refused, read-accepted}
 use borrow.Author.Needs.{needs}
 use Rattle.network.proofs.read.Statement.{statement}
 use Rattle.network.proofs.read.Tie as tie
@@ -36,32 +33,19 @@ head-of-requires c κs = kept-head _ (sym (c .before .before .head-number .ensur
 cast-n : tie.Need-cast-n
 cast-n c = search needs
 
-decode-requires : tie.Need-decode-requires
-decode-requires c κs =
-    let e = c .before .before in
-    let k = kept-head _ (sym (e .before .before .head-number .ensures) ∙ e .if2 .left) in
-    let n = ap (λ (h : Head). h .boards) (c .before .head-of .ensures) in
-    (n, omega (arith, k .few, n), k .size ∙ ap (λ (m : ℕ). 8 + 44 * m) (sym n))
-
-lookup-all-requires : tie.Need-lookup-all-requires
-lookup-all-requires c κs =
-    let e = c .before .before .before in
-    let k = kept-head _ (sym (e .before .before .head-number .ensures) ∙ e .if2 .left) in
-    let n = ap (λ (h : Head). h .boards) (c .before .before .head-of .ensures) in
-    omega (arith, k .few, n)
-
 judge-requires : tie.Need-judge-requires
 judge-requires c κs =
-    let e = c .before .before .before .before in
+    let h = c .before .before in
+    let e = h .before in
     let k = kept-head _ (sym (e .before .before .head-number .ensures) ∙ e .if2 .left) in
-    let n = ap (λ (h : Head). h .boards) (c .before .before .before .head-of .ensures) in
-    (n, omega (arith, k .few, n), k .size ∙ ap (λ (m : ℕ). 8 + 44 * m) (sym n), c .lookup-all .ensures ∙ ap placesOf (first-boards _ n (c .before .decode .ensures)))
+    let n = ap (λ (h : Head). h .boards) (h .head-of .ensures) in
+    ((n, omega (arith, k .few, n), k .size ∙ ap (λ (m : ℕ). 8 + 44 * m) (sym n)), e .before .before .before .before .pre)
 
 cast-refused : tie.Need-cast-refused
 cast-refused c = search needs
 
 sub-refused : tie.Need-sub-refused
-sub-refused c = c .before .judge .ensures .placed (c .if3 .taken)
+sub-refused c = let j = c .before in let s = j .before .before .before .before .before .before .before .before in placed (s .args .net .now) (s .args .label) (j .judge .ensures .0) (c .if3 .taken)
 
 mul-refused : tie.Need-mul-refused
 mul-refused c = search needs
@@ -75,42 +59,15 @@ refused-requires-3 c κs = search needs
 returns-3 : tie.Need-returns-3
 returns-3 c =
     let j = c .before .before in
-    let e = j .before .before .before .before .before in
-    read-refused _ _ (e .before .before .head-number .ensures) (e .if2 .left) (j .judge .ensures) (c .before .if3 .taken) (c .refused3 .ensures)
-
--- ---- all are kept
-abbrev judged : tie.After-nodes → tie.After-judge
-judged c = c .before .before
-
-abbrev decoded : tie.After-nodes → tie.After-decode
-decoded c = judged c .before .before
-
-abbrev headed : tie.After-nodes → tie.After-head-of
-headed c = decoded c .before .before
-
-counted : (c : tie.After-nodes) → headed c .head-of .result .boards ≡ count (headed c .before .before .before .before .before .args .net .now)
-counted c = ap (λ (h : Head). h .boards) (headed c .head-of .ensures)
-
-few : (c : tie.After-nodes) → headed c .head-of .result .boards ≤ 256
-few c =
-    let e = headed c .before in
-    let k = kept-head _ (sym (e .before .before .head-number .ensures) ∙ e .if2 .left) in
-    omega (arith, k .few, counted c)
-
-lookup-requires : tie.Need-lookup-requires
-lookup-requires c κs = few c
-
-cast-t20 : tie.Need-cast-t20
-cast-t20 c =
-    let n = headed (c .before) .head-of .result .boards in
-    let bs = decoded (c .before) .decode .result in
-    record { fits = omega (arith, c .lookup .ensures, place-most (headed (c .before) .before .before .before .before .before .args .label) (take n bs), length-take n bs, few (c .before)) }
+    let e = j .before .before .before .before in
+    read-refused _ _ (e .before .before .head-number .ensures) (e .if2 .left) (j .judge .ensures .0) (c .before .if3 .taken) (c .refused3 .ensures)
 
 returns-4 : tie.Need-returns-4
 returns-4 c =
-    let b = c .before in
-    let e = headed b .before in
-    read-accepted _ _ (e .before .before .head-number .ensures) (e .if2 .left) (judged b .judge .ensures) (b .before .if3 .left) (headed b .head-of .ensures) (counted b) (decoded b .decode .ensures) (c .lookup .ensures)
+    let j = c .before in
+    let h = j .before .before .before in
+    let e = h .before in
+    read-accepted _ _ (e .before .before .head-number .ensures) (e .if2 .left) (j .judge .ensures .0) (c .if3 .left) (h .head-of .ensures) (j .judge .ensures .1)
 
 pub read-spec : {M : Type 1} → statement M
 read-spec =
@@ -123,8 +80,6 @@ read-spec =
     returns-2
     head-of-requires
     cast-n
-    decode-requires
-    lookup-all-requires
     judge-requires
     cast-refused
     sub-refused
@@ -132,6 +87,4 @@ read-spec =
     add-refused
     refused-requires-3
     returns-3
-    lookup-requires
-    cast-t20
     returns-4)

@@ -47,15 +47,15 @@ use denote.Triple.Table.{entered, cited}
 use denote.Triple.Walked.{says, needs, Stays, stay-dropped, walkOf, Walks, ends-at, walked, goes-dropped, walk-meets}
 use denote.Exit.{yes}
 use Rattle.paper.specs.Label.{Label}
-use Rattle.paper.specs.Chain.{Boards, noBoard, placeOf}
+use Rattle.paper.specs.Chain.{Boards, noBoard}
 use Rattle.paper.specs.declared.Board.{Board}
-use Rattle.follows.proofs.Places.{place-most}
 use Rattle.paper.proofs.Board as T
 use Rattle.paper.proofs.Board.Laws as T′
-use Rattle.label.specs.Places.{placesOf}
+use Rattle.label.specs.Places.{speltAt, placesWith}
 use Rattle.label.specs.declared.places.Places.{Places}
 use Rattle.label.proofs.places.Places as P
 use Rattle.label.proofs.places.Places.Laws as P′
+use Rattle.label.proofs.SpeltAt.{spelt-most}
 use Rattle.label.proofs.Rest.{start, offset-fits, next-fits, fewer, by-test}
 use Rattle.label.proofs.Filled.{filled, filled-none, filled-long, filled-next, filled-all}
 use Rattle.label.proofs.PlacesNumbers.{numbers, number-vals, zeros, both, numbers-typed, taken-apart, together}
@@ -87,9 +87,9 @@ own d = d .label
 abbrev fed : Board → Label
 fed d = d .feeder
 
-all-is : (ys : Boards) (i : ℕ) → length ys ≤ i → _≡_ {A = Places} (record { own = filled own ys i; fed = filled fed ys i }) (placesOf ys)
-unfolding placesOf
-all-is ys i l = λ k. record { own = filled-all own ys i l k; fed = filled-all fed ys i l k }
+all-is : (ys : Boards) (i : ℕ) → length ys ≤ i → _≡_ {A = Places} (record { own = filled speltAt own ys i; fed = filled speltAt fed ys i }) (placesWith speltAt ys)
+unfolding placesWith
+all-is ys i l = λ k. record { own = filled-all speltAt own ys i l k; fed = filled-all speltAt fed ys i l k }
 
 abbrev stayed : Stays (find-all.ended .signature .params) (find-all.ended .kept)
 stayed = (stay-dropped (shrSliceOf (0 ∷ []) tt (plain (λ _. T.the-row))) yes, tt)
@@ -134,17 +134,17 @@ module _ {M : Type 1} (𝓤 : URA M) (H : Heap 𝓤) (A : Atoms 𝓤) (W : Given
 
   -- what stands in the two arrays
   abbrev os : St ys → List ℕ
-  os s = filled own ys (s .i)
+  os s = filled speltAt own ys (s .i)
 
   abbrev fs : St ys → List ℕ
-  fs s = filled fed ys (s .i)
+  fs s = filled speltAt fed ys (s .i)
 
   -- a place found is at most 256
-  place-fits : (l : Label) (r : ℕ) → r ≡ placeOf l ys → r < 2 ^ 16
-  place-fits l r e = omega (arith, place-most l ys, short, e)
+  place-fits : (l : Label) (r : ℕ) → r ≡ speltAt l ys → r < 2 ^ 16
+  place-fits l r e = omega (arith, spelt-most l ys, short, e)
 
-  in-filled : (f : Board → Label) (i : ℕ) → i < n → i < length (filled f ys i)
-  in-filled f i l = omega (arith, filled-long f ys i, l, short)
+  in-filled : (f : Board → Label) (i : ℕ) → i < n → i < length (filled speltAt f ys i)
+  in-filled f i l = omega (arith, filled-long speltAt f ys i, l, short)
 
   twice-fits : (i : ℕ) → i < n → i * 2 < 2 ^ 64
   twice-fits i l = omega (arith, l, short)
@@ -206,7 +206,7 @@ module _ {M : Type 1} (𝓤 : URA M) (H : Heap 𝓤) (A : Atoms 𝓤) (W : Given
         assigns ! (of-opd ! (load ! (from ! (stop !)) (look ! 20 refl))) (from ! (hop ! (look ! 14 refl) (stop !))) (store ! 0 refl (tt, record { fits = place-fits _ r e })) $
         move ! (1 ∷ []) $ drop ! $ owned ! u16 (Is u16) (uint-makes 𝓤 H A W w16) r _ (refl, place-fits _ r e) $ move ! (1 ∷ 0 ∷ []) $
         elem-put ! u16 fullShare (os s) (s .i) r (vint w16 r ∷ []) l₂ 0 (in-filled own (s .i) small) $ move ! (1 ∷ 2 ∷ 0 ∷ []) $
-        rewrite ! 2 (λ (xs : List ℕ). ‵ (row u16 fullShare xs l₂ 0)) (filled-next own ys (s .i) r small short e) refl $
+        rewrite ! 2 (λ (xs : List ℕ). ‵ (row u16 fullShare xs l₂ 0)) (filled-next speltAt own ys (s .i) r small short e) refl $
         -- fed[i]
         finds 𝓤 H A W mem run 𝓣 known κ q x (fed (getD ys (s .i) noBoard)) (bytes (fed (getD ys (s .i) noBoard))) (fed-is (getD ys (s .i) noBoard) g)
         (and-then ! (load ! (from ! (stop !)) (look ! 34 refl)) (and-then ! (load ! (from ! (fld ! refl (stop !))) (look-in ! 28 (sub ! 5 refl (whole !)))) (no-more !))) (λ r′ e′ fit′.
@@ -220,7 +220,7 @@ module _ {M : Type 1} (𝓤 : URA M) (H : Heap 𝓤) (A : Atoms 𝓤) (W : Given
         assigns ! (of-opd ! (load ! (from ! (stop !)) (look ! 20 refl))) (from ! (hop ! (look ! 10 refl) (stop !))) (store ! 0 refl (tt, record { fits = place-fits _ r′ e′ })) $
         move ! (1 ∷ []) $ drop ! $ owned ! u16 (Is u16) (uint-makes 𝓤 H A W w16) r′ _ (refl, place-fits _ r′ e′) $ move ! (1 ∷ 0 ∷ []) $
         elem-put ! u16 fullShare (fs s) (s .i) r′ (vint w16 r′ ∷ []) l₃ 0 (in-filled fed (s .i) small) $ move ! (1 ∷ 2 ∷ 3 ∷ 0 ∷ []) $
-        rewrite ! 3 (λ (xs : List ℕ). ‵ (row u16 fullShare xs l₃ 0)) (filled-next fed ys (s .i) r′ small short e′) refl $
+        rewrite ! 3 (λ (xs : List ℕ). ‵ (row u16 fullShare xs l₃ 0)) (filled-next speltAt fed ys (s .i) r′ small short e′) refl $
         -- i is one more
         assigns-last ! (bin ! (load ! (from ! (stop !)) (look ! 30 refl)) (lit ! tt) (record { fits = next-fits n (s .i) small (room .0) })) (from ! (stop !)) (store ! 30 refl (tt, record { fits = next-fits n (s .i) small (room .0) })) $
         rewrite ! 30 (λ (j : ℕ). ‵ (fat fullShare word l₄ 0 (vint w64 j))) (add-one (s .i)) refl $
@@ -235,8 +235,8 @@ module _ {M : Type 1} (𝓤 : URA M) (H : Heap 𝓤) (A : Atoms 𝓤) (W : Given
         assigns ! (bin ! (load ! (from ! (stop !)) (look ! 30 refl)) (load ! (from ! (stop !)) (look ! 26 refl)) tt) (from ! (stop !)) (init ! 24 refl (tt, tt)) $
         rewrite ! 24 (λ (t : Bool). ‵ (fat fullShare tyBool l₇ 0 (vbool t))) (le-ltb (s .i) n big) refl $
         leaves-loop ! (load ! (from ! (stop !)) (look ! 24 refl)) $ exec ! C Λ En mir.t-5 (atRet En Post) $
-        move ! (2 ∷ []) $ use1 W (given (Is (Array u16 256) (os s) (number-vals (os s) ∷ [])) (‵ (fat fullShare numbers l₂ 0 (number-vals (os s))))) (together 𝓤 H A W (os s) l₂ (filled-long own ys (s .i))) $ learn ! (λ g.
-        move ! (3 ∷ []) $ use1 W (given (Is (Array u16 256) (fs s) (number-vals (fs s) ∷ [])) (‵ (fat fullShare numbers l₃ 0 (number-vals (fs s))))) (together 𝓤 H A W (fs s) l₃ (filled-long fed ys (s .i))) $ learn ! (λ h.
+        move ! (2 ∷ []) $ use1 W (given (Is (Array u16 256) (os s) (number-vals (os s) ∷ [])) (‵ (fat fullShare numbers l₂ 0 (number-vals (os s))))) (together 𝓤 H A W (os s) l₂ (filled-long speltAt own ys (s .i))) $ learn ! (λ g.
+        move ! (3 ∷ []) $ use1 W (given (Is (Array u16 256) (fs s) (number-vals (fs s) ∷ [])) (‵ (fat fullShare numbers l₃ 0 (number-vals (fs s))))) (together 𝓤 H A W (fs s) l₃ (filled-long speltAt fed ys (s .i))) $ learn ! (λ h.
         -- [_3's; _2's; token; Own; _17; …]
         assigns ! (of-opd ! (load ! (from ! (stop !)) (look ! 1 refl))) (from ! (stop !)) (init ! 6 refl (numbers-typed 𝓤 H A W (os s) _ g)) $
         assigns ! (of-opd ! (load ! (from ! (stop !)) (look ! 0 refl))) (from ! (stop !)) (init ! 4 refl (numbers-typed 𝓤 H A W (fs s) _ h)) $
@@ -278,8 +278,8 @@ module _ {M : Type 1} (𝓤 : URA M) (H : Heap 𝓤) (A : Atoms 𝓤) (W : Given
       assigns ! (rep ! 256 (lit ! tt)) (from ! (stop !)) (init ! 28 refl (numbers-typed 𝓤 H A W (replicate 256 0) _ zeros)) $
       assigns ! (of-opd ! (lit ! tt)) (from ! (stop !)) (init ! 26 refl (tt, record { fits = lit< tt })) $
       rewrite ! 26 (λ (j : ℕ). ‵ (fat fullShare word l₄ 0 (vint w64 j))) start refl $
-      move ! (28 ∷ []) $ use1 W (‵ (row u16 fullShare (replicate 256 0) l₃ 0)) (taken-apart 𝓤 H A W (replicate 256 0) _ l₃ zeros) $ rewrite ! 0 (λ (xs : List ℕ). ‵ (row u16 fullShare xs l₃ 0)) (filled-none fed ys) refl $
-      move ! (30 ∷ []) $ use1 W (‵ (row u16 fullShare (replicate 256 0) l₂ 0)) (taken-apart 𝓤 H A W (replicate 256 0) _ l₂ zeros) $ rewrite ! 0 (λ (xs : List ℕ). ‵ (row u16 fullShare xs l₂ 0)) (filled-none own ys) refl $
+      move ! (28 ∷ []) $ use1 W (‵ (row u16 fullShare (replicate 256 0) l₃ 0)) (taken-apart 𝓤 H A W (replicate 256 0) _ l₃ zeros) $ rewrite ! 0 (λ (xs : List ℕ). ‵ (row u16 fullShare xs l₃ 0)) (filled-none speltAt fed ys) refl $
+      move ! (30 ∷ []) $ use1 W (‵ (row u16 fullShare (replicate 256 0) l₂ 0)) (taken-apart 𝓤 H A W (replicate 256 0) _ l₂ zeros) $ rewrite ! 0 (λ (xs : List ℕ). ‵ (row u16 fullShare xs l₂ 0)) (filled-none speltAt own ys) refl $
       move ! (37 ∷ []) $ fsplit ! $ move ! (38 ∷ []) $ split ! $
       -- [token; true; Own; true; own's row; fed's row; _17; …]
       keep ! (0 ∷ 2 ∷ 4 ∷ 5 ∷ 6 ∷ 7 ∷ 8 ∷ 9 ∷ 10 ∷ 11 ∷ 12 ∷ 13 ∷ 14 ∷ 15 ∷ 16 ∷ 17 ∷ 18 ∷ 19 ∷ 20 ∷ 21 ∷ 22 ∷ 23 ∷ 24 ∷ 25 ∷ 26 ∷ 27 ∷ 28 ∷ 29 ∷ 30 ∷ 31 ∷ 32 ∷ 33 ∷ 34 ∷ 35 ∷ 36 ∷ 37 ∷ 38 ∷ 39 ∷ []) $

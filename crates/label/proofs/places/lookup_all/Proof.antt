@@ -42,7 +42,7 @@ use denote.Exit.{yes}
 use Rattle.paper.specs.declared.Board.{Board}
 use Rattle.paper.proofs.Board as T
 use Rattle.paper.proofs.Board.Laws as T′
-use Rattle.label.specs.Places.{placesOf}
+use Rattle.label.specs.Places.{speltAt, placesWith}
 use Rattle.label.specs.declared.places.Places.{Places}
 use Rattle.label.proofs.places.Places as P
 use Rattle.label.proofs.places.Places.Laws as P′
@@ -86,8 +86,8 @@ module _ {M : Type 1} (𝓤 : URA M) (H : Heap 𝓤) (A : Atoms 𝓤) (W : Given
   asked le l α γ =
       qed W (‵ (flft (α ∷ []) fullShare) ∷ ‵ (FrontLent n ys l α γ) ∷ []) ∵ says ! (short n ys (it .1 .0 .1) le) $ nothing ! $ move ! (1 ∷ 0 ∷ []) $ join ! $ frame ! $ nothing ! $ move ! (1 ∷ 0 ∷ []) $ fjoin ! $ done !
 
-  said : (l α : ℕ) (γ : GName) (r : Places) → ent 𝓤 (ensured 𝓤 H A find-all.ended (find-all.clauses 𝓤 H A mem run) (α ∷ [], tt) (front n ys l γ, tt) tt r) (fact 𝓤 (r ≡ placesOf (take n ys)))
-  said l α γ r = exE 𝓤 _ (λ ws. snd∗ 𝓤 (sem 𝓤 H A (lasts find-all.ended (α ∷ [], tt) (front n ys l γ, tt) ws)) (fact 𝓤 (r ≡ placesOf (take n ys))))
+  said : (l α : ℕ) (γ : GName) (r : Places) → ent 𝓤 (ensured 𝓤 H A find-all.ended (find-all.clauses 𝓤 H A mem run) (α ∷ [], tt) (front n ys l γ, tt) tt r) (fact 𝓤 (r ≡ placesWith speltAt (take n ys)))
+  said l α γ r = exE 𝓤 _ (λ ws. snd∗ 𝓤 (sem 𝓤 H A (lasts find-all.ended (α ∷ [], tt) (front n ys l γ, tt) ws)) (fact 𝓤 (r ≡ placesWith speltAt (take n ys))))
 
   walk : (𝓣 : Tables 𝓤 H) → Triple 𝓤 (𝓣 .C #find-all) (FindAll 𝓤 H A mem run) → n < 2 ^ 64 → n ≤ 256 → ent 𝓤 (onEntry 𝓤 H A lookup-all.signature tt tt (ys, (n, tt)) at) (WpFn 𝓤 H (𝓣 .C) (𝓣 .Λ) code.function (tv ∷ vint w64 n ∷ []) Post)
   walk 𝓣 known gn le =
@@ -102,7 +102,7 @@ module _ {M : Type 1} (𝓤 : URA M) (H : Heap 𝓤) (A : Atoms 𝓤) (W : Given
       -- [what find_all asks; the lender's part; the rest of the table; _5 at 3; …; _4; …; _3's at 7; _2; …; _1; …; _0 at 12; …]
       calls-at ! (fmOf 𝓤 H (W .laws) 𝓣) (FindAll 𝓤 H A mem run) known (to l₃ α γ) (and-then ! (load ! (from ! (stop !)) (look ! 3 refl)) (no-more !)) (λ u.
       use1 W (later (some (λ (r : Places). ((‵ (flft (α ∷ []) fullShare) ⊛ ‵ ftrue) ⊛ ‵ (P.the-row .own r (u ∷ []))) ⊛ raw (ensured 𝓤 H A find-all.ended (find-all.clauses 𝓤 H A mem run) (α ∷ [], tt) (front n ys l₃ γ, tt) tt r)))) (id⊢ 𝓤 _) $ await ! tt $ pick ! (λ r.
-      split ! $ move ! (1 ∷ []) $ use1 W (raw (fact 𝓤 (r ≡ placesOf (take n ys)))) (said l₃ α γ r) $ heard ! (r ≡ placesOf (take n ys)) (λ e. split ! $ move ! (1 ∷ []) $
+      split ! $ move ! (1 ∷ []) $ use1 W (raw (fact 𝓤 (r ≡ placesWith speltAt (take n ys)))) (said l₃ α γ r) $ heard ! (r ≡ placesWith speltAt (take n ys)) (λ e. split ! $ move ! (1 ∷ []) $
       peeks ! P.the-row (Is P.the-row) (shows 𝓤 H A P.the-row) r (u ∷ []) (λ ir. drop ! $
       land ! (from ! (stop !)) (init ! 12 refl (LL.lawful P.the-type P′.the-laws 𝓤 H A W .typed r _ ir .0)) $ split ! $ move ! (1 ∷ []) $ drop ! $ takes-back 𝓤 H A W tt 256 n ys tv l₃ it α $
       -- [_3; _5; …; _4; …; _3's at 5; _2; …; _1; …; _0 at 10; …]

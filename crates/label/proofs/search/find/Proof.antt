@@ -50,11 +50,12 @@ use denote.Triple.Spec.{Meets, tripleOf}
 use denote.Triple.Table.{entered, cited}
 use denote.Triple.Walked.{says, Stays, stay-dropped, walkOf, Walks, ends-at, walked, goes-dropped, walk-meets}
 use denote.Exit.{yes}
-use Rattle.paper.specs.Label.{sameLabel}
-use Rattle.paper.specs.Chain.{Boards, noBoard, placeOf}
+use Rattle.paper.specs.Bytes.{sameBytes}
+use Rattle.paper.specs.Chain.{Boards, noBoard}
 use Rattle.paper.specs.declared.Board.{Board}
 use Rattle.paper.proofs.Board as T
 use Rattle.paper.proofs.Board.Laws as T′
+use Rattle.label.specs.Places.{speltAt}
 use Rattle.label.proofs.Rest.{Passed, passed-none, passed-here, passed-there, passed-end, start, offset-fits, next-fits, fewer, was, was-not, by-test}
 use Rattle.label.proofs.search.labelled as labelled
 use Rattle.label.proofs.search.labelled.Symbol as labelled-def
@@ -125,8 +126,8 @@ module _ {M : Type 1} (𝓤 : URA M) (H : Heap 𝓤) (A : Atoms 𝓤) (W : Given
       qed W [] ∵ nothing ! $ owned ! (Array u8 12) (Is (Array u8 12)) (array-makes 𝓤 H A W u8 (uint-makes 𝓤 H A W w8) 12) lab _ is $ fjoin ! $
       owned ! T.the-row (Is T.the-row) (LL.makes T.the-type T′.the-plain 𝓤 H A) d _ g $ fjoin ! $ nothing ! $ join ! $ frame ! $ done !
 
-  said : (d : Board) (r : Bool) → ent 𝓤 (ensured 𝓤 H A labelled.ended (labelled.clauses 𝓤 H A mem run) tt (d, (lab, tt)) tt r) (fact 𝓤 (r ≡ sameLabel lab (d .label)))
-  said d r = exE 𝓤 _ (λ ws. snd∗ 𝓤 (sem 𝓤 H A (lasts labelled.ended tt (d, (lab, tt)) ws)) (fact 𝓤 (r ≡ sameLabel lab (d .label))))
+  said : (d : Board) (r : Bool) → ent 𝓤 (ensured 𝓤 H A labelled.ended (labelled.clauses 𝓤 H A mem run) tt (d, (lab, tt)) tt r) (fact 𝓤 (r ≡ sameBytes lab (d .label)))
+  said d r = exE 𝓤 _ (λ ws. snd∗ 𝓤 (sem 𝓤 H A (lasts labelled.ended tt (d, (lab, tt)) ws)) (fact 𝓤 (r ≡ sameBytes lab (d .label))))
 
   module _ (𝓣 : Tables 𝓤 H) (known : Triple 𝓤 (𝓣 .C #labelled) (Labelled 𝓤 H A mem run)) (room : Room T.the-row n) (q′ : Share) (l₀ l₁ l₂ l₃ l₄ l₅ l₆ l₇ l₈ l₉ l₁₀ l₁₁ : ℕ) where
     abbrev C : Calls 𝓤 H
@@ -165,7 +166,7 @@ module _ {M : Type 1} (𝓤 : URA M) (H : Heap 𝓤) (A : Atoms 𝓤) (W : Given
         rewrite ! 2 (λ (t : Bool). ‵ (fat fullShare tyBool l₁₁ 0 (vbool t))) e refl $ rest
 
     -- the borrow is shut: the locals are freed, and the answer is given
-    leave : (i r : ℕ) (t : Bool) → r ≡ placeOf lab ys → r < 2 ^ 64
+    leave : (i r : ℕ) (t : Bool) → r ≡ speltAt lab ys → r < 2 ^ 64
         → Sq W (‵ (flft κ q) ∷ ‵ (fat fullShare tyBool l₁₁ 0 (vbool t)) ∷ ‵ (fdies tyBool l₁₁) ∷ ‵ (fat fullShare word l₁₀ 0 (vint w64 n)) ∷ ‵ (fdies word l₁₀)
         ∷ ‵ (froom tyBool l₉ 0) ∷ ‵ (fdies tyBool l₉) ∷ ‵ (froom T′.mir l₈ 0) ∷ ‵ (fdies T′.mir l₈) ∷ ‵ (froom tyPtr l₇ 0) ∷ ‵ (fdies tyPtr l₇) ∷ ‵ (froom tyBool l₆ 0) ∷ ‵ (fdies tyBool l₆)
         ∷ ‵ (froom word l₅ 0) ∷ ‵ (fdies word l₅) ∷ ‵ (froom T′.mir l₄ 0) ∷ ‵ (fdies T′.mir l₄) ∷ ‵ (fat fullShare word l₃ 0 (vint w64 i)) ∷ ‵ (fdies word l₃)
@@ -180,7 +181,7 @@ module _ {M : Type 1} (𝓤 : URA M) (H : Heap 𝓤) (A : Atoms 𝓤) (W : Given
         owned ! usize (Is usize) (uint-makes 𝓤 H A W w64) r _ (refl, g) $ done !
 
     -- the board at i has the label
-    found : (i : ℕ) → i < n → suc i ≡ placeOf lab ys → Sq W (Held i) (runs C Λ En mir.t-3 (atRet En Post))
+    found : (i : ℕ) → i < n → suc i ≡ speltAt lab ys → Sq W (Held i) (runs C Λ En mir.t-3 (atRet En Post))
     found i small e =
         compares i false (ne-eqb i n (λ s. omega arith)) (first ! $ branches ! (load ! (from ! (stop !)) (look ! 2 refl)) (λ no. absurd no)
         (λ _. skips ! $ exec ! C Λ En mir.t-6 (atRet En Post) $
@@ -189,7 +190,7 @@ module _ {M : Type 1} (𝓤 : URA M) (H : Heap 𝓤) (A : Atoms 𝓤) (W : Given
         shuts-slice ! tt T.the-row q′ ys b o $ returns ! (look ! 23 refl) $ leave i (suc i) false e (omega (arith, small, room .0))))
 
     -- there are no more
-    missing : (i : ℕ) → i ≡ n → 0 ≡ placeOf lab ys → Sq W (Held i) (runs C Λ En mir.t-3 (atRet En Post))
+    missing : (i : ℕ) → i ≡ n → 0 ≡ speltAt lab ys → Sq W (Held i) (runs C Λ En mir.t-3 (atRet En Post))
     missing i all e =
         compares i true (eq-eqb i n all) (first ! $ branches ! (load ! (from ! (stop !)) (look ! 2 refl))
         (λ _. assigns ! (of-opd ! (lit ! tt)) (from ! (stop !)) (init ! 24 refl (tt, record { fits = lit< tt })) $
@@ -215,7 +216,7 @@ module _ {M : Type 1} (𝓤 : URA M) (H : Heap 𝓤) (A : Atoms 𝓤) (W : Given
         use0 W (raw (Labelled 𝓤 H A mem run .pre (to (getD ys (s .i) noBoard)))) (asked (getD ys (s .i) noBoard) g) $
         calls-at ! (fmOf 𝓤 H (W .laws) 𝓣) (Labelled 𝓤 H A mem run) known (to (getD ys (s .i) noBoard)) (and-then ! (load ! (from ! (stop !)) (look ! 17 refl)) (and-then ! (load ! (from ! (stop !)) (look ! 21 refl)) (no-more !))) (λ u.
         use1 W (later (some (λ (r : Bool). (‵ ftrue ⊛ ‵ (Boolean .own r (u ∷ []))) ⊛ raw (ensured 𝓤 H A labelled.ended (labelled.clauses 𝓤 H A mem run) tt (getD ys (s .i) noBoard, (lab, tt)) tt r)))) (id⊢ 𝓤 _) $ await ! tt $ pick ! (λ r.
-        split ! $ move ! (1 ∷ []) $ use1 W (raw (fact 𝓤 (r ≡ sameLabel lab (getD ys (s .i) noBoard .label)))) (said (getD ys (s .i) noBoard) r) $ heard ! (r ≡ sameLabel lab (getD ys (s .i) noBoard .label)) (λ e. split ! $ move ! (1 ∷ []) $
+        split ! $ move ! (1 ∷ []) $ use1 W (raw (fact 𝓤 (r ≡ sameBytes lab (getD ys (s .i) noBoard .label)))) (said (getD ys (s .i) noBoard) r) $ heard ! (r ≡ sameBytes lab (getD ys (s .i) noBoard .label)) (λ e. split ! $ move ! (1 ∷ []) $
         peeks ! Boolean (Is Boolean) (shows 𝓤 H A Boolean) r (u ∷ []) (λ ib. drop ! $ drop ! $
         land ! (from ! (stop !)) (init ! 6 refl (bool-lawful 𝓤 H A W .typed r _ ib .0)) $ rewrite ! 6 (λ (w : Val). ‵ (fat fullShare tyBool l₉ 0 w)) (ap only ib) refl $
         first ! $ branches ! (load ! (from ! (stop !)) (look ! 6 refl))

@@ -6,22 +6,13 @@ use native.Mathlib.Omega.{arith}
 use lib.ListN.{length, take}
 use lib.Seq.{length-take-le}
 use Rattle.paper.specs.Refusal.{headRanges}
+use Rattle.node.proofs.Rows.{empty-rows}
 use Rattle.writer.specs.RoundTrip.{AllTyped}
 use Rattle.writer.proofs.InType.{table-in-type}
-use Rattle.writer.proofs.Judged.{wrong-head, few, k-few, fits, len-is, file-is, len-fits, judged-as, wrong-board, no-room, all-kept, refused, accepted}
+use Rattle.writer.proofs.Judged.{wrong-head, k-few, fits, len-is, file-is, len-fits, judged-as, wrong-board, no-room, all-kept, refused, accepted}
 use borrow.Author.Needs.{needs}
 use Rattle.writer.proofs.table.write_table.Statement.{statement}
 use Rattle.writer.proofs.table.write_table.Tie as tie
-use Rattle.writer.proofs.table.write_table.Reads as reads
-use Rattle.writer.proofs.table.write_table.Lts as lts
-use Rattle.decimal.proofs.put_bytes.Reads as put-bytes-reads
-use Rattle.file.proofs.head.head_wrong.Reads as head-wrong-reads
-use Rattle.label.proofs.places.lookup_all.Reads as lookup-all-reads
-use Rattle.records.proofs.judge.Reads as judge-reads
-use Rattle.writer.proofs.lay.put_file.Reads as put-file-reads
-use Rattle.writer.proofs.table.answered.Reads as answered-reads
-use Rattle.writer.proofs.table.page.Reads as page-reads
-use Rattle.writer.proofs.table.said.Reads as said-reads
 
 said-requires : tie.Need-said-requires
 said-requires c κs = search needs
@@ -74,9 +65,6 @@ put-file-requires c κs =
       fits (s .args .volts) (s .args .unit) (s .args .n) 0 (s .args .boards) (kept k) (volts-fit s) (unit-fit s) (typed s) (long s) said (c .before .page .ensures),
     )
 
-lookup-all-requires : tie.Need-lookup-all-requires
-lookup-all-requires c κs = let k = c .before .before .before .before in few _ _ _ 0 (k .before .before .before .before .args .boards) (kept k)
-
 prefix-fits : (p : tie.After-put-file) → p .put-file .result ≤ length (p .put-file .last .0)
 prefix-fits p =
     let k = p .before .before .before in
@@ -84,20 +72,20 @@ prefix-fits p =
     len-fits (s .args .volts) (s .args .unit) (s .args .n) 0 (s .args .boards) (kept k) (volts-fit s) (unit-fit s) (typed s) (long s) (k .before .before .said .ensures) (p .put-file .ensures) (p .before .before .page .ensures)
 
 array-share-prefix-file : tie.Need-array-share-prefix-file
-array-share-prefix-file c = prefix-fits (c .before .before)
+array-share-prefix-file c = prefix-fits (c .before)
 
 prefix-long : (p : tie.After-put-file) → p .put-file .result ≡ length (take (p .put-file .result) (p .put-file .last .0))
 prefix-long p = sym (length-take-le (p .put-file .result) (p .put-file .last .0) (prefix-fits p))
 
 slice-aggregate-judge : tie.Need-slice-aggregate-judge
-slice-aggregate-judge c = prefix-long (c .before .before .before)
+slice-aggregate-judge c = prefix-long (c .before .before)
 
 judge-requires : tie.Need-judge-requires
 judge-requires c κs =
     let p = c .before .before .before in
     let k = p .before .before .before in
     let s = k .before .before .before .before in
-    judged-as (s .args .volts) (s .args .unit) (s .args .n) 0 (s .args .boards) (kept k) (volts-fit s) (unit-fit s) (typed s) (long s) (k .before .before .said .ensures) (p .put-file .ensures) (c .before .lookup-all .ensures)
+    (judged-as (s .args .volts) (s .args .unit) (s .args .n) 0 (s .args .boards) (kept k) (volts-fit s) (unit-fit s) (typed s) (long s) (k .before .before .said .ensures) (p .put-file .ensures), empty-rows)
 
 answered-requires-2 : tie.Need-answered-requires-2
 answered-requires-2 c κs = search needs
@@ -109,7 +97,7 @@ returns-2 c =
     let k = p .before .before .before in
     let s = k .before .before .before .before in
     refused (s .args .volts) (s .args .unit) (s .args .n) (s .args .boards) (s .args .out .now)
-    (wrong-board (s .args .volts) (s .args .unit) (s .args .n) (length (s .args .out .now)) (s .args .boards) (kept k) (volts-fit s) (unit-fit s) (typed s) (long s) (k .before .before .said .ensures) (p .put-file .ensures) (j .judge .ensures) (c .before .if2 .taken))
+    (wrong-board (s .args .volts) (s .args .unit) (s .args .n) (length (s .args .out .now)) (s .args .boards) (kept k) (volts-fit s) (unit-fit s) (typed s) (long s) (k .before .before .said .ensures) (p .put-file .ensures) _ (j .judge .ensures .0) (c .before .if2 .taken))
     (c .answered2 .ensures)
 
 answered-requires-3 : tie.Need-answered-requires-3
@@ -123,7 +111,7 @@ returns-3 c =
     let k = p .before .before .before in
     let s = k .before .before .before .before in
     refused (s .args .volts) (s .args .unit) (s .args .n) (s .args .boards) (s .args .out .now)
-    (no-room (s .args .volts) (s .args .unit) (s .args .n) (length (s .args .out .now)) (s .args .boards) (kept k) (volts-fit s) (unit-fit s) (typed s) (long s) (k .before .before .said .ensures) (p .put-file .ensures) (j .judge .ensures) (e .if2 .left) (c .before .if3 .taken))
+    (no-room (s .args .volts) (s .args .unit) (s .args .n) (length (s .args .out .now)) (s .args .boards) (kept k) (volts-fit s) (unit-fit s) (typed s) (long s) (k .before .before .said .ensures) (p .put-file .ensures) _ (j .judge .ensures .0) (e .if2 .left) (c .before .if3 .taken))
     (c .answered3 .ensures)
 
 array-share-prefix-file-2 : tie.Need-array-share-prefix-file-2
@@ -152,7 +140,7 @@ returns-4 c =
     let s = k .before .before .before .before in
     let said = k .before .before .said .ensures in
     accepted (s .args .volts) (s .args .unit) (s .args .n) (s .args .boards) (s .args .out .now) (kept k)
-    (all-kept (s .args .volts) (s .args .unit) (s .args .n) (length (s .args .out .now)) (s .args .boards) (kept k) (volts-fit s) (unit-fit s) (typed s) (long s) said (p .put-file .ensures) (j .judge .ensures) (e .if2 .left) (r .if3 .left))
+    (all-kept (s .args .volts) (s .args .unit) (s .args .n) (length (s .args .out .now)) (s .args .boards) (kept k) (volts-fit s) (unit-fit s) (typed s) (long s) said (p .put-file .ensures) _ (j .judge .ensures .0) (e .if2 .left) (r .if3 .left))
     (file-is (s .args .volts) (s .args .unit) (s .args .n) 0 (s .args .boards) (kept k) (volts-fit s) (unit-fit s) (typed s) (long s) said (p .put-file .ensures))
     (len-is (s .args .volts) (s .args .unit) (s .args .n) 0 (s .args .boards) (kept k) (volts-fit s) (unit-fit s) (typed s) (long s) said (p .put-file .ensures))
     (b .put-bytes .ensures)
@@ -169,7 +157,6 @@ write-table-spec =
     page-requires
     slice-aggregate-put-file
     put-file-requires
-    lookup-all-requires
     array-share-prefix-file
     slice-aggregate-judge
     judge-requires

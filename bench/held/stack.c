@@ -1,5 +1,5 @@
 /* How much stack a call takes: it is run on a painted stack of its own, and the paint that is gone is measured. */
-#include "bench.h"
+#include "held.h"
 #include <string.h>
 
 enum { ROOM = 1 << 18, PAINT = 0xa5 };
