@@ -10,8 +10,8 @@
  * Limits, and what the caller answers for (nothing can prove it of C):
  * - x86-64 only. They need memcpy and memset, and nothing else: no heap, no files, no locale, no state between calls.
  * - They start no thread and take no lock. Calls in several threads do not meet, as long as no two share a buffer or an output.
- * - Stack: less than 20 KB below the caller, RANJUPELI_STACK, and for ranjupeli_write less than 48 KB, RANJUPELI_WRITE_STACK (docs/SPEED.md has the table).
- *   Give a thread that calls them 32 KB or more, one that writes 64 KB.
+ * - Stack: less than 20 KB below the caller, RANJUPELI_STACK, and for ranjupeli_write less than 32 KB, RANJUPELI_WRITE_STACK (docs/SPEED.md has the table).
+ *   Give a thread that calls them 32 KB or more, one that writes 48 KB.
  * - No pointer is null, even where its length is 0: no boards, no output, no label. Each length is true.
  * - The buffer is aligned for int64_t and overlaps neither file; the output does not overlap the boards.
  * - Any bytes and any boards may be lent, of any length. An accepted network has 8 + 44 N bytes, N from 1 to 256; a fault has 20, a label 12.
@@ -28,7 +28,7 @@ extern "C" {
 
 /* the bytes of stack that a call of ranjupeli_solve or ranjupeli_earth takes less than, and one of ranjupeli_write; the project's gate holds both */
 #define RANJUPELI_STACK (20 * 1024)
-#define RANJUPELI_WRITE_STACK (48 * 1024)
+#define RANJUPELI_WRITE_STACK (32 * 1024)
 
 /* the numbers that n boards need, and those that the largest network needs */
 #define RANJUPELI_NUMBERS(n) (13 + 24 * (size_t)(n))

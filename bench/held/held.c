@@ -9,7 +9,7 @@ static const struct {
     size_t stack, copied, filled, each;
 } calls[] = {
     {"solve", OURS, EXACT, RANJUPELI_STACK, 2304, 16896, 0},
-    {"write", OUR_WRITER, EXACT_WRITER, RANJUPELI_WRITE_STACK, 12894, 38912, 86},
+    {"write", OUR_WRITER, EXACT_WRITER, RANJUPELI_WRITE_STACK, 2048 + RANJUPELI_FILE(1), 28160, 44},
     {"earth", OUR_EARTH, EXACT_EARTH, RANJUPELI_STACK, 2048, 16896, 0},
 };
 

@@ -4,13 +4,13 @@
 //!
 //! Three safe functions over `libranjupeli.a`, whose code is proved. Links on x86-64 Linux alone. They allocate nothing, keep
 //! nothing between calls and start no thread. [`solve`] and [`earth`] take less than 20 KB of stack ([`STACK`]), [`write()`] less than
-//! 48 KB ([`WRITE_STACK`]): give a thread that calls them 32 KB or more, one that writes 64 KB.
+//! 32 KB ([`WRITE_STACK`]): give a thread that calls them 32 KB or more, one that writes 48 KB.
 
 /// The bytes of stack that a call of [`solve`] or [`earth`] takes less than.
 pub const STACK: usize = 20 * 1024;
 
 /// The bytes of stack that a call of [`write()`] takes less than.
-pub const WRITE_STACK: usize = 48 * 1024;
+pub const WRITE_STACK: usize = 32 * 1024;
 
 /// The numbers that a buffer needs for `boards` boards.
 pub const fn numbers(boards: usize) -> usize {

@@ -1,4 +1,6 @@
 pub mod FromTheBack
+mod Neighbours
+mod LettersByWord
 mod Same
 mod SpeltAt
 mod FoundIn

@@ -1,4 +1,4 @@
--- What each contract of this crate rules out: a call that it allows, and an answer that it does not. The rows of `find` and `find_all` are said of their callers, `lookup` and `lookup_all`; those of `capital` of its caller `in_capitals`.
+-- What each contract of this crate rules out: a call that it allows, and an answer that it does not. The rows of `find` and `find_all` are said of their callers, `lookup` and `lookup_all`; those of `capital` of its caller `in_capitals`, those of `letters_then_spaces` of `formed`.
 -- Assumes nothing.
 use mathlib.Core.Bool.{true, false}
 use mathlib.Core.List.{List, [], _∷_, _++_}
@@ -30,12 +30,18 @@ use Rattle.label.proofs.search.lookup.Reads as lookup
 use Rattle.label.proofs.places.lookup_all.Reads as lookup-all
 use Rattle.label.proofs.places.places_in.Reads as places-in
 
--- ---- labels: n letters A; one letter
+-- ---- labels: n letters A; one letter; letters with a space at place n; eleven letters and a byte
 abbrev letters : ℕ → List ℕ
 letters n = replicate n 65 ++ replicate (12 - n) 32
 
 abbrev letter : ℕ → List ℕ
 letter c = c ∷ replicate 11 32
+
+abbrev gap : ℕ → List ℕ
+gap n = replicate n 65 ++ (32 ∷ replicate (11 - n) 65)
+
+abbrev ending : ℕ → List ℕ
+ending c = replicate 11 65 ++ (c ∷ [])
 
 -- ---- a board by two impedances, label and feeder; boards by label and feeder alone, and a table of 256: A, B under A, A under B, C under A; the others are D under A
 abbrev boardOver : Ohms → Ohms → ℕ → ℕ → Board
@@ -119,9 +125,20 @@ pub formed-not : RuledOut (formed-at.Pre tt) (ever (formed-at.Post tt)) (
     (letter 0x7F, tt) ↛ true  -- formed_of_0x7f
     ∷ (65 ∷ 32 ∷ replicate 10 65, tt) ↛ true  -- formed_of_a_gap
     ∷ (letters 0, tt) ↛ true  -- formed_of_one_space
+    ∷ (gap 3, tt) ↛ true  -- gap_before_byte_4
+    ∷ (gap 7, tt) ↛ true  -- gap_before_byte_8
+    ∷ (gap 10, tt) ↛ true  -- gap_before_the_last
+    ∷ (ending 0xC1, tt) ↛ true  -- formed_by_seven_bits
+    ∷ (ending 0x80, tt) ↛ true  -- formed_of_0x80
+    ∷ (ending 0x1F, tt) ↛ true  -- formed_of_0x1f
+    ∷ (ending 0x7F, tt) ↛ true  -- formed_to_0x7f
+    ∷ (letters 12, tt) ↛ false  -- twelve_letters_refused
+    ∷ (letters 4, tt) ↛ false  -- spaces_refused
+    ∷ (ending 0x7E, tt) ↛ false  -- tilde_refused
+    ∷ (ending 0x21, tt) ↛ false  -- exclamation_refused
     ∷ [])
 unfolding Label·open Bytes·open
-formed-not = by-equation (λ a. formed (a .0)) bool (λ a z e s. s) (tt, (tt, (tt, tt))) tt
+formed-not = by-equation (λ a. formed (a .0)) bool (λ a z e s. s) (tt, (tt, (tt, (tt, (tt, (tt, (tt, (tt, (tt, (tt, (tt, (tt, (tt, (tt, tt)))))))))))))) tt
 
 pub labelled-not : RuledOut (labelled.Pre tt) (ever (labelled.Post tt)) (
     (board 65 66, (letter 66, tt)) ↛ true  -- labelled_feeder

@@ -10,8 +10,10 @@ pub mod Cancel
 -- how far from 0, and the signed words of the machine
 pub mod Distance
 pub mod Words
--- numbers and their bytes
+-- numbers, their bytes and bits, and what is done to all bytes of a word at once
 pub mod Little
+pub mod Bitwise
+pub mod Bytewise
 -- tables, and lent parts of a buffer
 pub mod Table
 pub mod Over

@@ -1,5 +1,5 @@
 -- The file of boards, read: its head and its records are theirs. Assumes nothing.
-use mathlib.Core.List.{List, [], _∷_}
+use mathlib.Core.List.{List, [], _∷_, _++_}
 use mathlib.Core.Path.{_≡_, refl, _∙_, ap, ap₂}
 use Prim.Native.Nat.{ℕ, _*_, _≤_}
 use native.Mathlib.Omega.{arith}
@@ -35,6 +35,11 @@ records-laid [] t = refl
 records-laid (b ∷ bs) (t, ts) =
     ap₂ _∷_ (take-at (boardBytes b) (boardsBytes bs) 44 (board-length b t)) (ap (records (length bs)) (drop-at (boardBytes b) (boardsBytes bs) 44 (board-length b t)) ∙ records-laid bs ts)
 
+-- ---- a head, with whatever behind it
+pub front-head : (h : Head) (s : List ℕ) → h .volts ≤ 65535 → h .unit ≤ 65535 → h .boards ≤ 65535 → headOf (headBytes h ++ s) ≡ h
+unfolding headOf headBytes little
+front-head h s v u n = λ i. record { volts = two-back (h .volts) v i; unit = two-back (h .unit) u i; boards = two-back (h .boards) n i }
+
 -- ---- the file
 module _ (volts unit : ℕ) (bs : Boards) (ts : AllTyped bs) where
   abbrev file : List ℕ
@@ -50,8 +55,8 @@ module _ (volts unit : ℕ) (bs : Boards) (ts : AllTyped bs) where
 
   module _ (v : volts ≤ 65535) (u : unit ≤ 65535) (n : length bs ≤ 65535) where
     pub file-head : headOf file ≡ headFor volts unit bs
-    unfolding headOf fileOf headBytes little
-    file-head = λ i. record { volts = two-back volts v i; unit = two-back unit u i; boards = two-back (length bs) n i }
+    unfolding fileOf
+    file-head = front-head (headFor volts unit bs) (boardsBytes bs) v u n
 
     pub file-records : recordsOf file ≡ laid bs
     unfolding recordsOf fileOf headBytes little

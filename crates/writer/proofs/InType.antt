@@ -1,4 +1,4 @@
--- What the types of a call's arguments say of its boards (`Typed`): no caller can lend others. Assumes nothing.
+-- What its type says of a board (`Typed`): no caller can lend others (`LentOn`, `typed-boards`). Assumes nothing.
 use mathlib.Core.List.{List, [], _∷_, map, map-id}
 use mathlib.Core.Path.{_≡_, sym, _∙_, ap}
 use Prim.Native.Nat.{ℕ, zero, suc}
@@ -6,8 +6,7 @@ use native.Mathlib.Omega.{arith}
 use lib.ListN.{length, take}
 use package.mir.Val.{Val}
 use denote.Laws.{Is}
-use denote.Shadow.{shadow}
-use denote.Array.{Array, each}
+use denote.Array.{Array}
 use denote.Builtin.{u8}
 use denote.Struct.Laws as LL
 use Rattle.paper.specs.declared.Ohms.{Ohms}
@@ -38,14 +37,6 @@ board-in-type d vs g =
       z0-word = ohms-in-type (d .z0) _ (w .1 .1 .0);
       zn-word = ohms-in-type (d .zn) _ (w .1 .1 .1 .0);
     }
-
-each-in-type : (ys : Boards) (us : List Val) → shadow (each Board (T.the-row .own) ys us) → AllTyped ys
-each-in-type [] us g = tt
-each-in-type (y ∷ ys) [] g = absurd g
-each-in-type (y ∷ ys) (u ∷ us) g = (board-in-type y (u ∷ []) (g .0), each-in-type ys us (g .1))
-
-pub table-in-type : (n : ℕ) (ys : Boards) (vs : List Val) → Is (Array T.the-row n) ys vs → AllTyped ys
-table-in-type n ys vs g = each-in-type ys (g .0) (g .1 .1)
 
 pub all-take : (n : ℕ) (ys : Boards) → AllTyped ys → AllTyped (take n ys)
 all-take zero ys t = tt

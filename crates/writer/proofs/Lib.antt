@@ -5,12 +5,15 @@ mod Shown
 pub mod Alike
 pub mod Again
 pub mod Theorems
--- what the types say of a call's boards
+-- what its type says of a board
 pub mod InType
--- the code: the table of boards that were given, its file laid down, its answers
-mod Copied
+-- the code: the boards laid down on a page, the file judged there, its answers
 mod Laid
 mod Judged
+-- in walks: the page lent on, and the calls that it is lent to
+mod LentOn
+mod PutBoard
+mod PageCalls
 -- a call of `write` in a walk
 pub mod Calls
 -- answers that it rules out

@@ -12,7 +12,7 @@ use Rattle.paper.specs.Chain.{Boards}
 use Rattle.paper.specs.Refusal.{noPart, networkRefusal}
 use Rattle.paper.specs.Write.{headFor}
 
--- ---- what types say of boards, twelve bytes to a label and two to a number, and of bytes. Every table of boards that a call holds is so (proofs/, `table-in-type`)
+-- ---- what types say of boards, twelve bytes to a label and two to a number, and of bytes. All boards that a call is lent are so (proofs/, `typed-boards`)
 pub record Typed (b : Board) : Type 0 where
   pub label-12 : length (b .label) ≡ 12
   pub feeder-12 : length (b .feeder) ≡ 12

@@ -1,7 +1,7 @@
 // The file's bytes, laid down in the lent buffer.
 // Each `put_..` writes from a place on and returns the place behind.
-ghost use mathlib.Core.List.{_++_};
-ghost use Prim.Native.Nat.{_≤_};
+ghost use mathlib.Core.Path.{_≡_};
+ghost use Prim.Native.Nat.{min};
 ghost use lib.ListN.{take};
 ghost use Rattle.paper.specs.Write.{ohmsBytes, headBytes, boardBytes, boardsBytes};
 ghost use Rattle.decimal.specs.Wrote.{Room, Wrote};
@@ -52,7 +52,7 @@ pub(crate) fn put_board(out: &mut [u8], at: usize, b: Board) -> usize
     put_ohms(out, p7, zn)
 }
 
-fn put_head(out: &mut [u8], at: usize, h: Head) -> usize
+pub(crate) fn put_head(out: &mut [u8], at: usize, h: Head) -> usize
     requires { ⌜ Room at (headBytes h) (now out) ⌝ }
     ensures { λ r. ⌜ Wrote at (headBytes h) (now (out .entry)) (now (out .exit)) r ⌝ }
 {
@@ -62,11 +62,19 @@ fn put_head(out: &mut [u8], at: usize, h: Head) -> usize
     put_two(out, c, h.boards)
 }
 
-// Of the table the first n, a board a turn. Behind them it holds empty places, which are no part of the file.
-fn put_boards(out: &mut [u8], at: usize, boards: [Board; 256], n: usize) -> usize
-    requires { ⌜ (n ≤ 256) × Room at (boardsBytes (take n boards)) (now out) ⌝ }
-    ensures { λ r. ⌜ Wrote at (boardsBytes (take n boards)) (now (out .entry)) (now (out .exit)) r ⌝ }
+// As many as a page has places for.
+pub(crate) fn at_most_256(n: usize) -> usize
+    ensures { λ r. ⌜ r ≡ min 256 n ⌝ }
 {
+    if n < 256 { n } else { 256 }
+}
+
+// A board a turn, straight from the boards lent. Of more than 256 the rest is left: their count alone refuses them.
+pub(crate) fn put_boards(out: &mut [u8], at: usize, boards: &[Board]) -> usize
+    requires { ⌜ Room at (boardsBytes (take 256 (now boards))) (now out) ⌝ }
+    ensures { λ r. ⌜ Wrote at (boardsBytes (take 256 (now (boards .entry)))) (now (out .entry)) (now (out .exit)) r ⌝ }
+{
+    let n = at_most_256(boards.len());
     let mut end = at;
     let mut i: usize = 0;
     while i < n {
@@ -75,14 +83,4 @@ fn put_boards(out: &mut [u8], at: usize, boards: [Board; 256], n: usize) -> usiz
         i += 1;
     }
     end
-}
-
-// The head says how many of the table's boards the file has, so that its N and its boards cannot differ.
-pub(crate) fn put_file(out: &mut [u8], head: Head, boards: [Board; 256]) -> usize
-    requires { ⌜ (head .boards ≤ 256) × Room 0 (headBytes head ++ boardsBytes (take (head .boards) boards)) (now out) ⌝ }
-    ensures { λ r. ⌜ Wrote 0 (headBytes head ++ boardsBytes (take (head .boards) boards)) (now (out .entry)) (now (out .exit)) r ⌝ }
-{
-    let n = head.boards as usize;
-    let a = put_head(out, 0, head);
-    put_boards(out, a, boards, n)
 }

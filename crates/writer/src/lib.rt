@@ -1,14 +1,14 @@
 // The network file, written: volts, unit and decoded boards to the bytes that the reader reads, or the refusal that the reader would give.
-mod given;
 mod lay;
 pub mod lend;
-mod table;
+mod page;
 
 ghost use mathlib.Core.Path.{_≡_};
 ghost use lib.ListN.{length};
 ghost use Rattle.paper.specs.Write.{writeVerdict, writeLeaves};
-use crate::given::given;
-use crate::table::write_table;
+use crate::lay::put_boards;
+use crate::page::blank;
+use crate::page::write_page;
 use paper::Board;
 use paper::Written;
 
@@ -18,6 +18,8 @@ pub fn write(volts: u16, unit: u16, boards: &[Board], out: &mut [u8]) -> Written
     ensures { λ _. ⌜ now (out .exit) ≡ writeLeaves volts unit (now (boards .entry)) (now (out .entry)) ⌝ }
 {
     let n = boards.len();
-    let table = given(boards);
-    write_table(volts, unit, n, table, out)
+    // One page, lent to both: the boards lie on it straight from the caller's, and no table of them is made.
+    let mut file = blank();
+    put_boards(&mut file, 8, boards);
+    write_page(volts, unit, n, &mut file, out)
 }

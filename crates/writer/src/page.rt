@@ -1,16 +1,15 @@
-// A network file written from a table of boards: laid down in a place of the call's own, judged there as the reader judges it, and copied out where all rules are kept and there is room.
+// A network file written from a page of the call's own, on which its boards' records are laid down: judged there as the reader judges it, and copied out where all rules are kept and there is room.
 ghost use mathlib.Core.Path.{_≡_};
 ghost use Prim.Native.Nat.{min};
 ghost use lib.ListN.{length};
 ghost use Rattle.paper.specs.Chain.{Boards};
 ghost use Rattle.paper.specs.Refusal.{noPart};
 ghost use Rattle.paper.specs.Write.{writeVerdict, writeLeaves};
-ghost use Rattle.writer.specs.Given.{Given};
-use crate::lay::put_file;
+ghost use Rattle.writer.specs.OnPage.{OnPage};
+use crate::lay::put_head;
 use decimal::put_bytes;
 use file::field::SPACE;
 use file::head::head_wrong;
-use paper::Board;
 use paper::Head;
 use paper::Lent;
 use paper::Part;
@@ -41,23 +40,24 @@ fn answered(number: u8, place: u16, len: usize) -> Written
     }
 }
 
-// Room for the longest file, 8 + 44 * 256. The contract gives only its length, which lending needs.
-fn page() -> [u8; 11272]
+// Room for the longest file, 8 + 44 * 256. The contract gives only its length, which lending needs: the bytes spelled out would be 11272 terms.
+pub(crate) fn blank() -> [u8; 11272]
     ensures { λ r. ⌜ length r ≡ 11272 ⌝ }
 {
     [0; 11272]
 }
 
-// n boards were given; the table has the first 256 of them.
-pub(crate) fn write_table(
+// n boards were given; the page has the records of the first 256 of them, behind room for a head. The contract is said of whatever boards the page holds.
+pub(crate) fn write_page(
     volts: u16,
     unit: u16,
     n: usize,
-    boards: [Board; 256],
+    file: &mut [u8],
     out: &mut [u8],
 ) -> Written
-    ensures { λ r. ⌜ ((bs : Boards) → Given bs n boards → r ≡ writeVerdict volts unit bs (length (now (out .entry)))) ⌝ }
-    ensures { λ _. ⌜ ((bs : Boards) → Given bs n boards → now (out .exit) ≡ writeLeaves volts unit bs (now (out .entry))) ⌝ }
+    requires { ⌜ length (now file) ≡ 11272 ⌝ }
+    ensures { λ r. ⌜ ((bs : Boards) → OnPage bs n (now (file .entry)) → r ≡ writeVerdict volts unit bs (length (now (out .entry)))) ⌝ }
+    ensures { λ _. ⌜ ((bs : Boards) → OnPage bs n (now (file .entry)) → now (out .exit) ≡ writeLeaves volts unit bs (now (out .entry))) ⌝ }
 {
     let count = said(n);
     let head = Head {
@@ -68,8 +68,8 @@ pub(crate) fn write_table(
     if head_wrong(head) {
         return answered(3, 0, 0);
     }
-    let mut file = page();
-    let len = put_file(&mut file, head, boards);
+    put_head(file, 0, head);
+    let len = 8 + 44 * n;
     let mut nodes = [[0u16; 10]; 256];
     let nobody = [SPACE; 12];
     let judged = judge(&file[..len], n, nobody, &mut nodes);
