@@ -1,4 +1,4 @@
-// What a board gets from its chain, and the tables of it, as the crates above pass them to each other.
+// What a board gets from its chain, as the crates above pass it to each other: as a struct, and as a row of numbers that can be lent.
 ghost use mathlib.Core.Path.{_≡_};
 ghost use Prim.Native.Nat.{_<_};
 ghost use lib.ListN.{getD, set};
