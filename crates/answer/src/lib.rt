@@ -16,6 +16,7 @@ use amps::amps;
 use board::front::fault_at;
 use board::front::top;
 use chain::chain;
+use node::NUMBERS;
 use node::node_at;
 use paper::Fault;
 use paper::Head;
@@ -24,7 +25,7 @@ use paper::Head;
 // The nodes are used up: what is left in them is nobody's.
 pub fn answer(
     head: Head,
-    nodes: &mut [[u16; 10]; 256],
+    nodes: &mut [[u16; NUMBERS]; 256],
     fault: Fault,
     k: usize,
     out: &mut [i64],

@@ -13,13 +13,14 @@ use chain::share::no_share;
 use chain::share::share;
 use chain::share::shared_in;
 use chain::share::with_share;
+use node::NUMBERS;
 use node::index;
 use node::node_at;
 use node::put_node;
 
 // What a board shares comes from what its feeder shares, and takes the place of its sums in its node; its 24 numbers go through its own part of the buffer.
 pub(crate) fn boards(
-    nodes: &mut [[u16; 10]; 256],
+    nodes: &mut [[u16; NUMBERS]; 256],
     n: usize,
     on: [bool; 256],
     f: Faulted,

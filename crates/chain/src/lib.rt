@@ -6,10 +6,11 @@ ghost use mathlib.Core.Path.{_≡_};
 ghost use Prim.Native.Nat.{_≤_};
 ghost use Rattle.node.specs.Rows.{nodesIn};
 ghost use Rattle.chain.specs.Marked.{FromEarlier, marksOf};
+use node::NUMBERS;
 use node::node_at;
 
 // The records on the chain of board k, marked.
-pub fn chain(nodes: &[[u16; 10]; 256], k: usize) -> [bool; 256]
+pub fn chain(nodes: &[[u16; NUMBERS]; 256], k: usize) -> [bool; 256]
     requires { ⌜ (k ≤ 256) × FromEarlier (nodesIn (now nodes)) ⌝ }
     ensures { λ r. ⌜ r ≡ marksOf (nodesIn (now (nodes .entry))) k ⌝ }
 {

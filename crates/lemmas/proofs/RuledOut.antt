@@ -1,7 +1,8 @@
 -- Answers that a contract rules out, as a table that is computed at once: of each row the contract allows the call and not the answer. Assumes nothing.
 use mathlib.Core.Bool.{Bool, true, false, not, _&&_, cond}
 use mathlib.Core.List.{List, [], _∷_}
-use mathlib.Core.Path.{_≡_, ap, subst}
+use mathlib.Core.Option.{Option, some, none as nothing}
+use mathlib.Core.Path.{_≡_, refl, ap, subst}
 use Prim.Native.Nat.{ℕ, suc, _+_, _*_}
 use lib.Dec.{T, eqb, eqb-refl}
 use lib.IntN.{ℤ, pos, negsuc}
@@ -62,6 +63,23 @@ by told right means = by-test (λ a z. eqb (told z) (right a)) (λ a z s. subst 
 pub by-equation : {A Z E : Type 0} (right : A → Z) (told : Z → ℕ) {asks : A → Type 0} {says : A → Z → E → Type 0} {rows : List (Row A Z)} → ((a : A) (z : Z) (e : E) → says a z e → z ≡ right a) → Asked asks rows → T (none (λ a z. eqb (told z) (told (right a))) rows) → RuledOut asks (ever says) rows
 by-equation right told means = by told (λ a. told (right a)) (λ a z s. ap told (means a z (s .0) (s .1)))
 
+-- where it says what is left only if nothing is refused: by a number of the answer, and then one of what is left
+abbrev pub unless : {X : Type 0} → Option X → Bool → Bool
+unless nothing b = b
+unless (some x) b = true
+
+also : (b : Bool) {X : Type 0} (o : Option X) (c : Bool) → T b → (o ≡ nothing → T c) → T (b && unless o c)
+also true nothing c t f = f refl
+also true (some x) c t f = tt
+also false o c t f = absurd t
+
+pub by-parts : {A Z X : Type 0} (told : Z → ℕ) (right : A → ℕ) (refusal : A → Option X) (left : Z → ℕ) (leaves : A → ℕ) {asks : A → Type 0} {says : A → Z → Type 0} {rows : List (Row A Z)}
+    → ((a : A) (z : Z) → says a z → (told z ≡ right a) × (refusal a ≡ nothing → left z ≡ leaves a)) → Asked asks rows
+    → T (none (λ a z. eqb (told z) (right a) && unless (refusal a) (eqb (left z) (leaves a))) rows) → RuledOut asks says rows
+by-parts told right refusal left leaves means =
+    by-test (λ a z. eqb (told z) (right a) && unless (refusal a) (eqb (left z) (leaves a)))
+    (λ a z s. also (eqb (told z) (right a)) (refusal a) (eqb (left z) (leaves a)) (subst (λ n. T (eqb (told z) n)) (means a z s .0) (eqb-refl (told z))) (λ e. subst (λ n. T (eqb (left z) n)) (means a z s .1 e) (eqb-refl (left z))))
+
 -- ---- answers told as numbers: nothing rests on which, only that they differ where the answers do
 abbrev pub bool : Bool → ℕ
 bool b = cond b 1 0
@@ -74,6 +92,11 @@ whole (negsuc n) = suc (n + n)
 abbrev pub list : List ℕ → ℕ
 list [] = 0
 list (x ∷ xs) = suc x + 18446744073709551617 * list xs
+
+-- rows of them
+abbrev pub lists : List (List ℕ) → ℕ
+lists [] = 0
+lists (xs ∷ rows) = list (list xs ∷ lists rows ∷ [])
 
 abbrev pub wholes : List ℤ → ℕ
 wholes [] = 0

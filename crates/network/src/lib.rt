@@ -14,6 +14,7 @@ use file::bytes::head_of;
 use file::field::HD;
 use file::field::u16_at;
 use file::head::head_wrong;
+use node::NUMBERS;
 use paper::Head;
 use paper::Lent;
 use paper::Outcome;
@@ -75,7 +76,7 @@ fn head_number(net: &[u8]) -> u8
 }
 
 // The network, and the first of its boards that has the label. Rows that say no node are filled with the network's; what they hold after a refusal is nobody's.
-pub fn read(net: &[u8], label: [u8; 12], nodes: &mut [[u16; 10]; 256]) -> Network
+pub fn read(net: &[u8], label: [u8; 12], nodes: &mut [[u16; NUMBERS]; 256]) -> Network
     requires { ⌜ nodesIn (now nodes) ≡ table noNode [] ⌝ }
     ensures { λ r. ⌜ r ≡ networkOf (now (net .entry)) label ⌝ }
     ensures { λ _. ⌜ (networkRefusal (now (net .entry)) ≡ none → nodesIn (now (nodes .exit)) ≡ table noNode (nodesOf (boardsOf (now (net .entry))))) ⌝ }

@@ -32,6 +32,13 @@ unfolding nodesIn nodeIn
 zero-rows zero = refl
 zero-rows (suc n) = ap (λ (ms : List Node). noNode ∷ ms) (zero-rows n)
 
-pub empty-rows : nodesIn (replicate 256 (replicate 10 0)) ≡ table noNode []
+abbrev pub noRows : List (List ℕ)
+noRows = replicate 256 (replicate 10 0)
+
+pub empty-rows : nodesIn noRows ≡ table noNode []
 unfolding table
 empty-rows = zero-rows 256
+
+-- the rows of some nodes
+abbrev pub rowsOf : List Node → List (List ℕ)
+rowsOf nodes = map rowOf nodes

@@ -5,7 +5,7 @@ use Prim.Native.Nat.{ℕ}
 use lib.Dec.{lit<}
 use lib.ListN.{getD, set}
 use base.Fml.{Lft}
-use Rattle.lemmas.proofs.RuledOut.{_↛_, RuledOut, ever, ends, by, by-equation, list, lent}
+use Rattle.lemmas.proofs.RuledOut.{_↛_, RuledOut, ever, ends, by, by-equation, list, lists, lent}
 use Rattle.paper.specs.declared.Ohms.{Ohms}
 use Rattle.paper.specs.Kind.{ohms}
 use Rattle.node.specs.declared.Node.{Node}
@@ -28,25 +28,18 @@ rows = (1 ∷ 2 ∷ 3 ∷ 4 ∷ 5 ∷ 6 ∷ 0 ∷ 1 ∷ 1 ∷ 0 ∷ []) ∷ (11 
 abbrev node : Ohms → Ohms → Ohms → ℕ → ℕ → ℕ → ℕ → Node
 node z1 z2 z0 f h s t = record { z1 = z1; z2 = z2; z0 = z0; feeder = f; head = h; start = s; turn = t }
 
-abbrev told : Node → ℕ
-told n = list (n .z1 .r ∷ n .z1 .x ∷ n .z2 .r ∷ n .z2 .x ∷ n .z0 .r ∷ n .z0 .x ∷ n .feeder ∷ n .head ∷ n .start ∷ n .turn ∷ [])
-
-abbrev all : List (List ℕ) → ℕ
-all [] = 0
-all (row ∷ rows) = list (list row ∷ all rows ∷ [])
-
 module _ (κ : Lft) where
   pub node-at-not : RuledOut (node-at.Pre (κ, tt)) (ever (node-at.Post (κ, tt))) (
       (lent rows, (1, tt)) ↛ node (ohms 1 2) (ohms 3 4) (ohms 5 6) 0 1 1 0  -- node_before
       ∷ (lent rows, (1, tt)) ↛ node (ohms 13 14) (ohms 11 12) (ohms 15 16) 1 1 1 11  -- sequences_exchanged
       ∷ (lent rows, (0, tt)) ↛ node (ohms 1 2) (ohms 3 4) (ohms 5 6) 1 0 1 0  -- head_for_feeder
       ∷ [])
-  unfolding nodesIn nodeIn
-  node-at-not = by-equation (λ a. getD (nodesIn (a .0 .now)) (a .1 .0) noNode) told (λ a z e s. s) (lit< tt, (lit< tt, (lit< tt, tt))) tt
+  unfolding nodesIn nodeIn rowOf
+  node-at-not = by-equation (λ a. getD (nodesIn (a .0 .now)) (a .1 .0) noNode) (λ n. list (rowOf n)) (λ a z e s. s) (lit< tt, (lit< tt, (lit< tt, tt))) tt
 
   pub put-node-not : RuledOut (put-node.Pre (κ, tt)) (ends (put-node.Post (κ, tt))) (
       (lent rows, (1, (noNode, tt))) ↛ (tt, (lent rows, (1, (noNode, tt))))  -- nothing_put
       ∷ (lent rows, (1, (noNode, tt))) ↛ (tt, (lent (set rows 0 (rowOf noNode)), (1, (noNode, tt))))  -- put_before
       ∷ [])
   unfolding rowOf
-  put-node-not = by (λ z. all (z .1 .0 .now)) (λ a. all (set (a .0 .now) (a .1 .0) (rowOf (a .1 .1 .0)))) (λ a z s. ap all s) (lit< tt, (lit< tt, tt)) tt
+  put-node-not = by (λ z. lists (z .1 .0 .now)) (λ a. lists (set (a .0 .now) (a .1 .0) (rowOf (a .1 .1 .0)))) (λ a z s. ap lists s) (lit< tt, (lit< tt, tt)) tt

@@ -25,8 +25,11 @@ pub fn index(place: u16) -> usize
     place as usize
 }
 
+// The numbers of a row.
+pub const NUMBERS: usize = 10;
+
 // A node taken from its row.
-fn of_row(row: [u16; 10]) -> Node
+fn of_row(row: [u16; NUMBERS]) -> Node
     ensures { λ n. ⌜ n ≡ nodeIn row ⌝ }
 {
     let z1 = Ohms {
@@ -53,7 +56,7 @@ fn of_row(row: [u16; 10]) -> Node
 }
 
 // A node as its row.
-fn row_of(n: Node) -> [u16; 10]
+fn row_of(n: Node) -> [u16; NUMBERS]
     ensures { λ row. ⌜ row ≡ rowOf n ⌝ }
 {
     let z1 = n.z1;
@@ -74,7 +77,7 @@ fn row_of(n: Node) -> [u16; 10]
 }
 
 // The node at a place of the lent rows.
-pub fn node_at(rows: &[[u16; 10]; 256], i: usize) -> Node
+pub fn node_at(rows: &[[u16; NUMBERS]; 256], i: usize) -> Node
     requires { ⌜ i < 256 ⌝ }
     ensures { λ n. ⌜ n ≡ getD (nodesIn (now (rows .entry))) i noNode ⌝ }
 {
@@ -83,7 +86,7 @@ pub fn node_at(rows: &[[u16; 10]; 256], i: usize) -> Node
 }
 
 // A node put in its place.
-pub fn put_node(rows: &mut [[u16; 10]; 256], i: usize, n: Node)
+pub fn put_node(rows: &mut [[u16; NUMBERS]; 256], i: usize, n: Node)
     requires { ⌜ i < 256 ⌝ }
     ensures { λ _. ⌜ now (rows .exit) ≡ set (now (rows .entry)) i (rowOf n) ⌝ }
 {

@@ -4,6 +4,7 @@ use file::field::u16_at;
 use libc::STDIN_FILENO;
 use libc::STDOUT_FILENO;
 use network::Network;
+use node::NUMBERS;
 use paper::Outcome;
 
 fn say(text: &[u8]) {
@@ -18,7 +19,7 @@ fn number(n: u64) {
 // The network alone: no board is asked for, and its nodes are left.
 fn read(net: &[u8]) -> Network {
     let nobody = [b' '; 12];
-    let mut nodes = [[0u16; 10]; 256];
+    let mut nodes = [[0u16; NUMBERS]; 256];
     network::read(net, nobody, &mut nodes)
 }
 

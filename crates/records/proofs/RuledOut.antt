@@ -1,22 +1,20 @@
 -- What each contract of this crate rules out: a call that it allows, and an answer that it does not. Assumes nothing.
-use mathlib.Core.Bool.{Bool, true, false, _&&_}
+use mathlib.Core.Bool.{false}
 use mathlib.Core.List.{List, [], _∷_, _++_}
-use mathlib.Core.Option.{Option, none, some}
-use mathlib.Core.Path.{_≡_, refl, ap, subst}
+use mathlib.Core.Path.{refl, ap}
 use Prim.Native.Nat.{ℕ}
-use lib.Dec.{T, leb, lit≤, eqb, eqb-refl}
+use lib.Dec.{T, leb, lit≤}
 use lib.ListN.{replicate, set}
 use base.Fml.{Lft}
-use Rattle.lemmas.proofs.RuledOut.{_↛_, RuledOut, ever, ends, by-test, by-equation, bool, list, lent}
+use Rattle.lemmas.proofs.RuledOut.{_↛_, RuledOut, ever, ends, by-parts, by-equation, bool, list, lists, lent}
 use Rattle.paper.specs.declared.Ohms.{Ohms}
 use Rattle.paper.specs.declared.Board.{Board}
-use Rattle.paper.proofs.Told.{parts, small}
+use Rattle.paper.proofs.Told.{small}
 use Rattle.paper.specs.Bytes.{Bytes·open}
 use Rattle.paper.specs.Label.{Label·open}
 use Rattle.paper.specs.Kind.{ohms, Kind·open}
 use Rattle.paper.specs.File.{BD, recordsOf, boardsOf}
 use Rattle.paper.specs.Answer.{paper}
-use Rattle.paper.specs.declared.Refusal.{Refusal}
 use Rattle.paper.proofs.Typed.{label, Typed·open}
 use Rattle.paper.proofs.Figures.{records, net1}
 use Rattle.paper.specs.Refusal.{recordsRefusal, Refusal·open}
@@ -24,7 +22,7 @@ use Rattle.node.specs.declared.Node.{Node}
 use Rattle.node.specs.Node.{nodeOf, startOf, noNode, OwnSmall, UpSmall, withZero, nodeFrom, nodeOver}
 use Rattle.node.specs.Rows.{rowOf, nodeIn, nodesIn}
 use Rattle.node.specs.Tables.{table, nodesFrom, nodesOf}
-use Rattle.node.proofs.Rows.{empty-rows}
+use Rattle.node.proofs.Rows.{noRows, empty-rows, rowsOf}
 use Rattle.records.specs.declared.Step.{Step}
 use Rattle.records.specs.declared.Judged.{Judged}
 use Rattle.records.specs.Rules.{fedWrong, broken, numberOf, earlier, stepOf}
@@ -35,10 +33,6 @@ use Rattle.records.proofs.sums.node_from.Reads as node-from
 use Rattle.records.proofs.rules.earlier.Reads as earlier-at
 use Rattle.records.proofs.rules.step.Reads as step
 use Rattle.records.proofs.judge.Reads as judge
-
--- ---- answers told apart
-abbrev fields : Node → List ℕ
-fields n = parts (n .z1) ++ parts (n .z2) ++ parts (n .z0) ++ (n .feeder ∷ n .head ∷ n .start ∷ n .turn ∷ [])
 
 -- ---- nodes and boards
 abbrev node : Ohms → Ohms → Ohms → ℕ → ℕ → ℕ → ℕ → Node
@@ -89,7 +83,8 @@ pub no-node-not : RuledOut (no-node.Pre tt) (ever (no-node.Post tt)) (
     ∷ tt ↛ node zero zero zero 0 0 0 1  -- turned_above_record_1
     ∷ tt ↛ node zero zero zero 0 0 1 0  -- start_above_record_1
     ∷ [])
-no-node-not = by-equation (λ a. noNode) (λ n. list (fields n)) (λ a z e s. s) (tt, (tt, (tt, tt))) tt
+unfolding rowOf
+no-node-not = by-equation (λ a. noNode) (λ n. list (rowOf n)) (λ a z e s. s) (tt, (tt, (tt, tt))) tt
 
 pub node-over-not : RuledOut (node-over.Pre tt) (ever (node-over.Post tt)) (
     (node (ohms 4096 0) zero zero 0 0 0 0, tt) ↛ false  -- sum_of_4096
@@ -105,9 +100,9 @@ pub node-from-not : RuledOut (node-from.Pre tt) (ever (node-from.Post tt)) (
     ∷ (2, (board 3 0 j1, (1, (up, tt)))) ↛ node j2 j2 j2 1 2 1 0  -- kind_3_heads_a_part
     ∷ (2, (board 5 0 j1, (1, (up-zero, tt)))) ↛ node j2 j2 zero 1 1 0 0  -- kind_5_joins
     ∷ [])
-unfolding nodeFrom withZero Kind·open
+unfolding rowOf nodeFrom withZero Kind·open
 node-from-not =
-    by-equation (λ a. nodeFrom (a .0) (a .1 .0) (a .1 .1 .0) (a .1 .1 .1 .0)) (λ n. list (fields n)) (λ a z e s. s)
+    by-equation (λ a. nodeFrom (a .0) (a .1 .0) (a .1 .1 .0) (a .1 .1 .1 .0)) (λ n. list (rowOf n)) (λ a z e s. s)
     ((own-small 4 1 1 tt tt, up-small 1 1 1 tt tt), ((own-small 2 0 1 tt tt, up-small 1 0 0 tt tt), ((own-small 2 0 2 tt tt, up-small 1 1 1 tt tt), ((own-small 3 0 1 tt tt, up-small 1 1 1 tt tt), ((own-small 5 0 1 tt tt, up-small 1 0 0 tt tt), tt))))) tt
 
 pub earlier-not : RuledOut (earlier-at.Pre tt) (ever (earlier-at.Post tt)) (
@@ -123,55 +118,34 @@ pub step-not : RuledOut (step.Pre tt) (ever (step.Post tt)) (
     ∷ (2, (BD, (board 2 0 j2, (2, (1, (up, tt)))))) ↛ said 11 noNode  -- ten_said_eleven
     ∷ (2, (BD, (board 2 0 j1, (2, (1, (up-most, tt)))))) ↛ said 10 (node (ohms 0 4096) j2 j2 1 1 1 0)  -- eleven_said_ten
     ∷ [])
-unfolding stepOf earlier nodeOver nodeFrom withZero broken numberOf fedWrong Kind·open Label·open Bytes·open Refusal·open
+unfolding rowOf stepOf earlier nodeOver nodeFrom withZero broken numberOf fedWrong Kind·open Label·open Bytes·open Refusal·open
 step-not =
-    by-equation (λ a. stepOf (a .0) (a .1 .0) (a .1 .1 .0) (a .1 .1 .1 .0) (a .1 .1 .1 .1 .0) (a .1 .1 .1 .1 .1 .0)) (λ s. list (s .number ∷ fields (s .node))) (λ a z e s. s)
+    by-equation (λ a. stepOf (a .0) (a .1 .0) (a .1 .1 .0) (a .1 .1 .1 .0) (a .1 .1 .1 .1 .0) (a .1 .1 .1 .1 .1 .0)) (λ s. list (s .number ∷ rowOf (s .node))) (λ a z e s. s)
     ((lit≤ tt, up-small 1 1 1 tt tt), ((lit≤ tt, up-small 1 1 1 tt tt), ((lit≤ tt, up-small 1 1 1 tt tt), ((lit≤ tt, up-small 4095 1 1 tt tt), tt)))) tt
 
 -- ---- the records judged, with rows that say no node
-abbrev empty : List (List ℕ)
-empty = replicate 256 (replicate 10 0)
-
 abbrev nobody : List ℕ
 nobody = replicate 12 32
-
--- the nodes of some rows, told
-abbrev all : List Node → ℕ
-all [] = 0
-all (n ∷ ns) = list (list (fields n) ∷ all ns ∷ [])
 
 -- the source's row
 abbrev source : List ℕ
 source = rowOf (nodeOf (boardsOf net1) 1)
-
--- what rows may hold afterwards: the nodes, where nothing is refused
-abbrev right : Option Refusal → ℕ → ℕ → Bool
-right none x y = eqb x y
-right (some w) x y = true
-
-rightly : (o : Option Refusal) {x y : ℕ} → (o ≡ none → x ≡ y) → T (right o x y)
-rightly none {x} {y} f = subst (λ (m : ℕ). T (eqb x m)) (f refl) (eqb-refl x)
-rightly (some w) f = tt
-
-also : (a b : Bool) → T a → T b → T (a && b)
-also true b x y = y
-also false b x y = x
 
 abbrev verdict : Judged → ℕ
 verdict z = list (z .asked ∷ z .place ∷ z .number ∷ [])
 
 module _ (κ κ′ : Lft) where
   pub judge-not : RuledOut (judge.Pre (κ, (κ′, tt))) (ends (judge.Post (κ, (κ′, tt)))) (
-      (lent net, (1, (nobody, (lent empty, tt)))) ↛ (judged 0 2 5, (lent net, (1, (nobody, (lent empty, tt)))))  -- counted_from_0
-      ∷ (lent net, (1, (nobody, (lent empty, tt)))) ↛ (judged 0 0 5, (lent net, (1, (nobody, (lent empty, tt)))))  -- place_from_0
-      ∷ (lent net, (1, (nobody, (lent empty, tt)))) ↛ (judged 1 1 5, (lent net, (1, (nobody, (lent empty, tt)))))  -- source_for_nobody
-      ∷ (lent net1, (1, (label "gen", (lent empty, tt)))) ↛ (judged 0 0 0, (lent net1, (1, (label "gen", (lent (set empty 0 source), tt)))))  -- asked_as_typed
-      ∷ (lent net1, (1, (nobody, (lent empty, tt)))) ↛ (judged 0 0 0, (lent net1, (1, (nobody, (lent empty, tt)))))  -- no_nodes_left
-      ∷ (lent net1, (1, (nobody, (lent empty, tt)))) ↛ (judged 0 0 0, (lent net1, (1, (nobody, (lent (set empty 1 source), tt)))))  -- node_one_row_on
+      (lent net, (1, (nobody, (lent noRows, tt)))) ↛ (judged 0 2 5, (lent net, (1, (nobody, (lent noRows, tt)))))  -- counted_from_0
+      ∷ (lent net, (1, (nobody, (lent noRows, tt)))) ↛ (judged 0 0 5, (lent net, (1, (nobody, (lent noRows, tt)))))  -- place_from_0
+      ∷ (lent net, (1, (nobody, (lent noRows, tt)))) ↛ (judged 1 1 5, (lent net, (1, (nobody, (lent noRows, tt)))))  -- source_for_nobody
+      ∷ (lent net1, (1, (label "gen", (lent noRows, tt)))) ↛ (judged 0 0 0, (lent net1, (1, (label "gen", (lent (set noRows 0 source), tt)))))  -- asked_as_typed
+      ∷ (lent net1, (1, (nobody, (lent noRows, tt)))) ↛ (judged 0 0 0, (lent net1, (1, (nobody, (lent noRows, tt)))))  -- no_nodes_left
+      ∷ (lent net1, (1, (nobody, (lent noRows, tt)))) ↛ (judged 0 0 0, (lent net1, (1, (nobody, (lent (set noRows 1 source), tt)))))  -- node_one_row_on
       ∷ [])
   unfolding judgement judgedBy paper Typed·open records nodesIn nodeIn rowOf table nodesFrom nodeOf startOf
   judge-not =
-      by-test (λ a z. eqb (verdict (z .0)) (verdict (judgement (a .0 .now) (a .1 .1 .0))) && right (recordsRefusal [] (recordsOf (a .0 .now))) (all (nodesIn (z .1 .1 .1 .1 .0 .now))) (all (table noNode (nodesOf (boardsOf (a .0 .now))))))
-      (λ a z s. also (eqb (verdict (z .0)) (verdict (judgement (a .0 .now) (a .1 .1 .0)))) _
-      (subst (λ (m : ℕ). T (eqb (verdict (z .0)) m)) (ap verdict (s .0)) (eqb-refl (verdict (z .0)))) (rightly (recordsRefusal [] (recordsOf (a .0 .now))) (λ e. ap all (s .1 e))))
+      by-parts (λ z. verdict (z .0)) (λ a. verdict (judgement (a .0 .now) (a .1 .1 .0)))
+      (λ a. recordsRefusal [] (recordsOf (a .0 .now))) (λ z. lists (rowsOf (nodesIn (z .1 .1 .1 .1 .0 .now)))) (λ a. lists (rowsOf (table noNode (nodesOf (boardsOf (a .0 .now))))))
+      (λ a z s. (ap verdict (s .0), λ e. ap (λ (ns : List Node). lists (rowsOf ns)) (s .1 e)))
       (((refl, lit≤ tt, refl), empty-rows), (((refl, lit≤ tt, refl), empty-rows), (((refl, lit≤ tt, refl), empty-rows), (((refl, lit≤ tt, refl), empty-rows), (((refl, lit≤ tt, refl), empty-rows), (((refl, lit≤ tt, refl), empty-rows), tt)))))) tt

@@ -19,6 +19,7 @@ use crate::sums::no_node;
 use file::bytes::board_of;
 use file::field::u16_at;
 use label::places::places_in;
+use node::NUMBERS;
 use node::Node;
 use node::index;
 use node::node_at;
@@ -39,7 +40,7 @@ pub struct Judged {
 
 // Rows that say no node are filled with the nodes of all records. What they hold where a record is refused is nobody's.
 // A record is decoded again where it is judged: to pass the table of boards would copy it.
-pub fn judge(net: &[u8], n: usize, label: [u8; 12], nodes: &mut [[u16; 10]; 256]) -> Judged
+pub fn judge(net: &[u8], n: usize, label: [u8; 12], nodes: &mut [[u16; NUMBERS]; 256]) -> Judged
     requires { ⌜ (n ≡ headOf (now net) .boards) × (n ≤ 256) × (length (now net) ≡ 8 + 44 * n) ⌝ }
     requires { ⌜ nodesIn (now nodes) ≡ table noNode [] ⌝ }
     ensures { λ r. ⌜ r ≡ judgement (now (net .entry)) label ⌝ }

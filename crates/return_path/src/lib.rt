@@ -6,6 +6,7 @@ ghost use Rattle.paper.specs.Return.{refusedBy, said, earthSaid};
 ghost use Rattle.return_path.specs.Return.{saidBy};
 use file::field::label_in;
 use network::read;
+use node::NUMBERS;
 use node::Node;
 use node::index;
 use node::node_at;
@@ -49,7 +50,7 @@ fn of_node(node: Node) -> EarthReturn
 pub fn earth(net: &[u8], label: &[u8]) -> EarthReturn
     ensures { λ r. ⌜ said r ≡ earthSaid (now (net .entry)) (now (label .entry)) ⌝ }
 {
-    let mut nodes = [[0u16; 10]; 256];
+    let mut nodes = [[0u16; NUMBERS]; 256];
     let wanted = label_in(label, LABEL, 0);
     let network = read(net, wanted, &mut nodes);
     let outcome = network.outcome;

@@ -8,6 +8,7 @@ use file::field::FAULT;
 use file::field::FAULT_LABEL;
 use file::field::label_in;
 use network::read;
+use node::NUMBERS;
 use paper::Answer;
 use paper::Outcome;
 use verdict::accepted;
@@ -19,7 +20,7 @@ pub fn solve(net: &[u8], flt: &[u8], buffer: &mut [i64]) -> Answer
     ensures { λ r. ⌜ r ≡ verdict (now (net .entry)) (now (flt .entry)) (length (now (buffer .entry))) ⌝ }
     ensures { λ _. ⌜ now (buffer .exit) ≡ written (now (net .entry)) (now (flt .entry)) (now (buffer .entry)) ⌝ }
 {
-    let mut nodes = [[0u16; 10]; 256];
+    let mut nodes = [[0u16; NUMBERS]; 256];
     let label = label_in(flt, FAULT, FAULT_LABEL);
     let network = read(net, label, &mut nodes);
     let outcome = network.outcome;

@@ -10,6 +10,7 @@ use crate::lay::put_head;
 use decimal::put_bytes;
 use file::field::SPACE;
 use file::head::head_wrong;
+use node::NUMBERS;
 use paper::Head;
 use paper::Lent;
 use paper::Part;
@@ -70,7 +71,7 @@ pub(crate) fn write_page(
     }
     put_head(file, 0, head);
     let len = 8 + 44 * n;
-    let mut nodes = [[0u16; 10]; 256];
+    let mut nodes = [[0u16; NUMBERS]; 256];
     let nobody = [SPACE; 12];
     let judged = judge(&file[..len], n, nobody, &mut nodes);
     let number = judged.number;
