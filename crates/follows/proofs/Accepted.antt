@@ -14,12 +14,12 @@ use Rattle.paper.specs.Bytes.{within}
 use Rattle.paper.specs.File.{markOf, HD, BD, FT, headOf, headSize, boardOf, boardSize, faultOf, records, recordsOf, decoded, boardsOf}
 use Rattle.paper.specs.Chain.{Boards, placeOf}
 use Rattle.paper.specs.Rows.{test, first}
-use Rattle.paper.specs.Refusal.{theRecord, headRanges, headRows, boardTests, recordRefusal, inOrder, recordsRefusal, networkRefusal, phaseWrong, answerSize, faultRows, refusal}
+use Rattle.paper.specs.Refusal.{theRecord, headRanges, headRows, boardTests, recordRows, inOrder, recordsRows, recordsRefusal, networkRows, networkRefusal, phaseWrong, answerSize, faultRows, solveRows, refusal}
 use Rattle.lemmas.proofs.Bools.{both, neither, same-by}
 use Rattle.paper.specs.Bounds.{AtMost}
 use Rattle.follows.proofs.Impedance.{not-over}
 use Rattle.follows.proofs.Places.{place-most}
-use Rattle.follows.proofs.Rows.{Clear, clear, clear-at, then-none}
+use Rattle.follows.proofs.Rows.{Clear, clear, clear-at, both-none}
 use Rattle.follows.proofs.Sound.{Sound, sound-none, tested, sound-next}
 
 -- ---- the head
@@ -40,8 +40,8 @@ head-ranges h t =
     record { volts-range = within-true 1 1000 (h .volts) t-volts; unit-range = within-true 10 1000 (h .unit) t-unit; boards-range = within-true 1 256 (h .boards) t-boards }
 
 -- ---- the records, each behind those before it
-pub record-tested : (before : Boards) (s : List ℕ) → recordRefusal before s ≡ none → (markOf s ≡ BD) × Clear (boardTests before (boardOf s))
-unfolding recordRefusal
+pub record-tested : (before : Boards) (s : List ℕ) → first (recordRows before s) ≡ none → (markOf s ≡ BD) × Clear (boardTests before (boardOf s))
+unfolding recordRows
 record-tested before s e =
     let c = clear-at (suc (length before)) (theRecord (suc (length before))) (test 5 (not (eqb (markOf s) BD)) ∷ boardTests before (boardOf s)) e in
     (same-by (markOf s) BD (c .0), c .1)
@@ -50,7 +50,7 @@ pub records-sound : (before : Boards) (recs : List (List ℕ)) → Sound before 
 unfolding inOrder decoded
 records-sound before [] s e = rw append-nil s
 records-sound before (x ∷ recs) s e =
-    let (e1, e2) = then-none (recordRefusal before x) (recordsRefusal (before ++ (boardOf x ∷ [])) recs) e in
+    let (e1, e2) = both-none (recordRows before x) (recordsRows (before ++ (boardOf x ∷ [])) recs) e in
     let next = sound-next before (boardOf x) s (tested before (boardOf x) (record-tested before x e1 .1)) in
     rw (← append-assoc before (boardOf x ∷ []) (decoded recs)) (records-sound (before ++ (boardOf x ∷ [])) recs next e2)
 
@@ -74,9 +74,9 @@ pub record Network (net : List ℕ) : Type 0 where
   pub sound : Sound (boardsOf net)
 
 pub accepted-network : (net : List ℕ) → networkRefusal net ≡ none → Network net
-unfolding networkRefusal headRows boardsOf
+unfolding networkRows headRows boardsOf
 accepted-network net e =
-    let (e1, e2) = then-none (first (headRows net)) (recordsRefusal [] (recordsOf net)) e in
+    let (e1, e2) = both-none (headRows net) (recordsRows [] (recordsOf net)) e in
     let (c1, (c2, (c3, (c4, _)))) = clear (headRows net) e1 in
     let t : headRanges (headOf net) ≡ true = not-false (headRanges (headOf net)) c3 in
     record {
@@ -108,12 +108,12 @@ phase-right f h =
     (ltb-false 2 (f .phase) a, λ e. same-by (f .phase) 0 (rw (eq-eqb (f .kind) 0 e) at b))
 
 pub accepted-fault : (net flt : List ℕ) (room : ℕ) → refusal net flt room ≡ none → Question net flt room
-unfolding refusal faultRows
+unfolding solveRows faultRows
 accepted-fault net flt room e =
     let bs : Boards = boardsOf net in
     let f : Fault = faultOf flt in
     let k : ℕ = placeOf (f .label) bs in
-    let (e1, e2) = then-none (networkRefusal net) (first (faultRows bs flt room)) e in
+    let (e1, e2) = both-none (networkRows net) (faultRows bs flt room) e in
     let (c12, (c13, (c14, (c15, (c16, (c17, (c19, _))))))) = clear (faultRows bs flt room) e2 in
     let there = eqb-false k 0 c14 in
     let (p, p0) = phase-right f c16 in

@@ -1,6 +1,6 @@
 -- 02, R-3: a network and a fault typed in another case. Whatever the bytes, damaged ones too, the answer or the refusal and the buffer stay; so does what writing boards returns; bytes shown back differ in their case alone. Assumes nothing.
 use mathlib.Core.Bool.{Bool, true, false, not, cond, _&&_, _||_}
-use mathlib.Core.List.{List, [], _∷_, map}
+use mathlib.Core.List.{List, [], _∷_, _++_, map}
 use mathlib.Core.Option.{Option}
 use mathlib.Core.Path.{_≡_, refl, sym, _∙_, ap}
 use Prim.Native.Nat.{ℕ, zero, suc, _+_, _*_, _-_, _%_, _≤_, _<_, min}
@@ -20,12 +20,12 @@ use Rattle.paper.specs.Label.{Label, capital, capitals}
 use Rattle.paper.specs.Kind.{ohms, partOver}
 use Rattle.paper.specs.File.{markOf, HD, BD, FT, headOf, headSize, boardOf, boardSize, labelSize, faultOf, faultSize, fileSize, records, recordsOf, decoded, boardsOf}
 use Rattle.paper.specs.Chain.{Boards, placeOf}
-use Rattle.paper.specs.Rows.{Test, test, row, rowsAt, first, _then_}
-use Rattle.paper.specs.Refusal.{theHead, theRecord, theFault, headRanges, headRows, boardTests, recordRefusal, inOrder, recordsRefusal, networkRefusal, phaseWrong, answerSize, faultRows, refusal}
+use Rattle.paper.specs.Rows.{Test, test, Row, row, rowsAt, first}
+use Rattle.paper.specs.Refusal.{theHead, theRecord, theFault, headRanges, headRows, boardTests, recordRows, inOrder, recordsRows, networkRows, phaseWrong, answerSize, faultRows, solveRows, refusal}
 use Rattle.paper.specs.Phase.{Asked, asked}
 use Rattle.paper.specs.Answer.{after, written, answer, verdict}
 use Rattle.paper.specs.Write.{writeVerdict}
-use Rattle.paper.specs.Return.{labelRows, earthRefusal, earthAt, refusedOr, earthSaid}
+use Rattle.paper.specs.Return.{labelRows, earthRows, earthAt, refusedOr, earthSaid}
 use Rattle.paper.proofs.Typed.{ft, Typed·open}
 use Rattle.follows.proofs.Case.{capital-once}
 use Rattle.follows.specs.Capitals.{boardInCapitals}
@@ -132,16 +132,16 @@ boards-seen [] = refl
 boards-seen (s ∷ recs) = ap (λ bs. boardInCapitals (boardOf s) ∷ bs) (boards-seen recs)
 
 -- 5 to 11 by what is seen of the records: at a place, a mark and the board's tests
-abbrev judgedAt : ℕ → ℕ → List Test → Option Refusal
-judgedAt p mark tests = first (rowsAt p (theRecord p) (test 5 (not (eqb mark BD)) ∷ tests))
+abbrev rowsSeen : ℕ → ℕ → List Test → List Row
+rowsSeen p mark tests = rowsAt p (theRecord p) (test 5 (not (eqb mark BD)) ∷ tests)
 
-abbrev judged : Boards → ℕ × Board → Option Refusal
-judged before r = judgedAt (suc (length before)) (r .0) (boardTests before (r .1))
+abbrev seenRows : Boards → ℕ × Board → List Row
+seenRows before r = rowsSeen (suc (length before)) (r .0) (boardTests before (r .1))
 
-records-seen : (recs : List (List ℕ)) → recordsRefusal [] recs ≡ inOrder (λ r. r .1) judged [] (map seen recs)
-unfolding recordRefusal
+records-seen : (recs : List (List ℕ)) → recordsRows [] recs ≡ inOrder (λ r. r .1) seenRows [] (map seen recs)
+unfolding recordRows
 records-seen =
-    order-upper boardOf recordRefusal (λ r. r .1) judged seen (λ s. refl) (λ before s i. judgedAt (suc (count before i)) (markOf s) (tests-upper before (boardOf s) i)) []
+    order-upper boardOf recordRows (λ r. r .1) seenRows seen (λ s. refl) (λ before s i. rowsSeen (suc (count before i)) (markOf s) (tests-upper before (boardOf s) i)) []
 
 -- ---- a network
 module _ {net net′ : List ℕ} (typed : Retyped inNetwork net net′) where
@@ -179,11 +179,11 @@ module _ {net net′ : List ℕ} (typed : Retyped inNetwork net net′) where
       ∷ row 4 (not (eqb size (fileSize (h .boards)))) 0 theHead
       ∷ []
 
-  network-alike : networkRefusal net ≡ networkRefusal net′
-  unfolding networkRefusal
+  network-alike : networkRows net ≡ networkRows net′
+  unfolding networkRows
   network-alike =
-      let later = by-capitals (map seen) (inOrder (λ r. r .1) judged []) records-seen (recordsOf net) (recordsOf net′) seen-alike in
-      λ j. first (head-rows-alike j) then later j
+      let later = by-capitals (map seen) (inOrder (λ r. r .1) seenRows []) records-seen (recordsOf net) (recordsOf net′) seen-alike in
+      λ j. head-rows-alike j ++ later j
 
   -- ---- and a label (02, R-4)
   module _ (l l′ : Label) (same : capitals l ≡ capitals l′) where
@@ -197,10 +197,10 @@ module _ {net net′ : List ℕ} (typed : Retyped inNetwork net net′) where
         λ j. row 14 (not (eqb (size j) labelSize) || eqb (label-place j) 0) 0 (part LabelBytes 0 (size j)) ∷ []
 
     pub said-alike : earthSaid net l ≡ earthSaid net′ l′
-    unfolding earthSaid earthRefusal
+    unfolding earthSaid earthRows
     said-alike =
         let at = by-capitals uppers (λ us. earthAt us (placeOf l (boardsOf net))) (λ bs. earth-upper bs (placeOf l (boardsOf net))) (boardsOf net) (boardsOf net′) boards-alike in
-        λ j. refusedOr (network-alike j then first (label-rows-alike j)) ((at ∙ ap (earthAt (boardsOf net′)) label-place) j)
+        λ j. refusedOr (first (network-alike j ++ label-rows-alike j)) ((at ∙ ap (earthAt (boardsOf net′)) label-place) j)
 
   -- ---- and a fault
   module _ {flt flt′ : List ℕ} (retyped : Retyped inFault flt flt′) where
@@ -233,8 +233,8 @@ module _ {net net′ : List ℕ} (typed : Retyped inNetwork net net′) where
         ∷ []
 
     refusal-alike : (room : ℕ) → refusal net flt room ≡ refusal net′ flt′ room
-    unfolding refusal
-    refusal-alike room = λ j. network-alike j then first (fault-rows-alike room j)
+    unfolding solveRows
+    refusal-alike room = λ j. first (network-alike j ++ fault-rows-alike room j)
 
     asked-alike : upperAsked (asked net flt) ≡ upperAsked (asked net′ flt′)
     unfolding asked

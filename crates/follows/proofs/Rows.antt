@@ -1,12 +1,12 @@
--- No row tested true: then each tested false. Assumes nothing.
+-- No row tested true: then each tested false; and rows behind others. Assumes nothing.
 use mathlib.Core.Bool.{true, false}
-use mathlib.Core.List.{List, [], _∷_}
+use mathlib.Core.List.{List, [], _∷_, _++_}
 use mathlib.Core.Option.{Option, none, some}
-use mathlib.Core.Path.{_≡_, refl, ap, subst}
+use mathlib.Core.Path.{_≡_, refl, sym, _∙_, ap, subst}
 use Prim.Native.Nat.{ℕ}
 use Rattle.paper.specs.declared.Part.{Part}
 use Rattle.paper.specs.declared.Refusal.{Refusal}
-use Rattle.paper.specs.Rows.{Test, test, Row, row, rowsAt, first, _then_}
+use Rattle.paper.specs.Rows.{Test, test, Row, row, rowsAt, first}
 
 pub some-none : {r : Refusal} → some r ≡ none → ⊥
 some-none e = subst Is e tt
@@ -38,7 +38,35 @@ tests-at p s (test n b ∷ ts) = ap (λ l. test n b ∷ l) (tests-at p s ts)
 pub clear-at : (p : ℕ) (s : Part) (ts : List Test) → first (rowsAt p s ts) ≡ none → Clear ts
 clear-at p s ts e = subst Clear (tests-at p s ts) (clear (rowsAt p s ts) e)
 
-pub then-none : (a b : Option Refusal) → a then b ≡ none → (a ≡ none) × (b ≡ none)
-unfolding _then_
-then-none none b e = (refl, e)
-then-none (some r) b e = absurd (some-none e)
+-- ---- rows behind others: they are asked where none of these tests true
+infixr 20 _then_
+unfoldable pub _then_ : Option Refusal → Option Refusal → Option Refusal
+none then later = later
+some r then later = some r
+
+pub first-then : (rows later : List Row) → first (rows ++ later) ≡ first rows then first later
+unfolding first _then_
+first-then [] later = refl
+first-then (row n true p s ∷ rows) later = refl
+first-then (row n false p s ∷ rows) later = first-then rows later
+
+module _ (rows later : List Row) where
+  -- what the whole gives, by what the rows before give
+  given : {o : Option Refusal} → first rows ≡ o → first (rows ++ later) ≡ o then first later
+  given e = first-then rows later ∙ ap (λ o. o then first later) e
+
+  pub behind : first rows ≡ none → first (rows ++ later) ≡ first later
+  unfolding _then_
+  behind e = given e
+
+  pub ahead : {r : Refusal} → first rows ≡ some r → first (rows ++ later) ≡ some r
+  unfolding _then_
+  ahead e = given e
+
+  pub both-none : first (rows ++ later) ≡ none → (first rows ≡ none) × (first later ≡ none)
+  unfolding _then_
+  both-none e = go (first rows) (sym (first-then rows later) ∙ e)
+    where
+      go : (o : Option Refusal) → o then first later ≡ none → (o ≡ none) × (first later ≡ none)
+      go none e = (refl, e)
+      go (some r) e = absurd (some-none e)

@@ -17,14 +17,14 @@ use Rattle.paper.specs.Bytes.{oneOf}
 use Rattle.paper.specs.Label.{Label, capitals}
 use Rattle.paper.specs.Kind.{Term, z0-alone, z0+3zn, Zero, starts, goes-on, Rule, z1≠0, z2≠0, z1=z2, z0=0, zn=0, kindOf, partOver, holds, allHold, term, zeroTerm, isStart}
 use Rattle.paper.specs.Chain.{Boards, noBoard, board, lookFrom, placeOf, feederOf, climb, chain, zeroOf, tied, tie, partChain, lastOf, partHead, joined, earthBy, earthOf, isNone, returnBy, zeroChain, sumΩ, sumℕ, term0, Z1, Z2, Z0, turnOf, common, shared1, shared2, shared0}
-use Rattle.paper.specs.Rows.{test, row, rowsAt, first, _then_}
-use Rattle.paper.specs.Refusal.{theRecord, noPart, headRanges, feederWrong, kindWrong, impedanceWrong, sumWrong, boardTests, inOrder, boardRefusal, boardsRefusal, answerSize}
+use Rattle.paper.specs.Rows.{test, Row, row, rowsAt, first}
+use Rattle.paper.specs.Refusal.{theRecord, noPart, headRanges, feederWrong, kindWrong, impedanceWrong, sumWrong, boardTests, inOrder, boardRows, boardsRows, answerSize}
 use Rattle.paper.specs.Fault.{numOf, seq, shortOf, D, currents, liftOf}
 use Rattle.paper.specs.Phase.{Asked, onlyIf, voltageOf, theShort, theD, theI, lift, voltage, current, phases, faultCurrents, boardVoltages, recordCurrents}
 use Rattle.paper.specs.Amps.{said, saidSquare, ampsOver, ampsUnder, amps}
 use Rattle.paper.specs.Answer.{flat, ofBoard, ofBoards, numbers, after, accepted, answer}
 use Rattle.paper.specs.Return.{returnOf, earthAt}
-use Rattle.paper.specs.Write.{tooShort, writeRefusal, writeAnswer, writeVerdict}
+use Rattle.paper.specs.Write.{roomRows, writeRows, writeAnswer, writeVerdict}
 use Rattle.follows.specs.Capitals.{boardInCapitals}
 use Rattle.follows.proofs.Case.{formed-capitals, spaces-capitals, same-upper}
 
@@ -165,27 +165,27 @@ tests-upper before b =
     ∷ []
 
 -- ---- records or boards in their order, and what they are in capitals
-module _ {A B : Type 0} (board : A → Board) (judged : Boards → A → Option Refusal) (board′ : B → Board) (judged′ : Boards → B → Option Refusal) (up : A → B) where
-  pub order-upper : ((a : A) → boardInCapitals (board a) ≡ board′ (up a)) → ((before : Boards) (a : A) → judged before a ≡ judged′ (uppers before) (up a))
+module _ {A B : Type 0} (board : A → Board) (rows : Boards → A → List Row) (board′ : B → Board) (rows′ : Boards → B → List Row) (up : A → B) where
+  pub order-upper : ((a : A) → boardInCapitals (board a) ≡ board′ (up a)) → ((before : Boards) (a : A) → rows before a ≡ rows′ (uppers before) (up a))
       → (before : Boards) (all : List A)
-      → inOrder board judged before all ≡ inOrder board′ judged′ (uppers before) (map up all)
+      → inOrder board rows before all ≡ inOrder board′ rows′ (uppers before) (map up all)
   unfolding inOrder
   order-upper same agreed before [] = refl
   order-upper same agreed before (a ∷ rest) =
       let next = behind before (board a) ∙ (λ i. uppers before ++ (same a i ∷ [])) in
-      let later = order-upper same agreed (before ++ (board a ∷ [])) rest ∙ ap (λ bs. inOrder board′ judged′ bs (map up rest)) next in
-      λ i. agreed before a i then later i
+      let later = order-upper same agreed (before ++ (board a ∷ [])) rest ∙ ap (λ bs. inOrder board′ rows′ bs (map up rest)) next in
+      λ i. agreed before a i ++ later i
 
-boards-upper : (bs : Boards) → boardsRefusal [] bs ≡ boardsRefusal [] (uppers bs)
-unfolding boardRefusal
-boards-upper = order-upper (λ b. b) boardRefusal (λ b. b) boardRefusal boardInCapitals (λ b. refl) (λ before b i. first (rowsAt (suc (count before i)) noPart (tests-upper before b i))) []
+boards-upper : (bs : Boards) → boardsRows [] bs ≡ boardsRows [] (uppers bs)
+unfolding boardRows
+boards-upper = order-upper (λ b. b) boardRows (λ b. b) boardRows boardInCapitals (λ b. refl) (λ before b i. rowsAt (suc (count before i)) noPart (tests-upper before b i)) []
 
 -- ---- 02, R-1: what writing returns does not depend on case
 pub write-upper : (volts unit room : ℕ) (bs : Boards) → writeVerdict volts unit bs room ≡ writeVerdict volts unit (uppers bs) room
-unfolding writeVerdict writeRefusal
+unfolding writeVerdict writeRows
 write-upper volts unit room bs = λ i.
     let n = count bs i in
-    writeAnswer (first (row 3 (not (headRanges (record { volts = volts; unit = unit; boards = n }))) 0 noPart ∷ []) then boards-upper bs i then tooShort n room) n
+    writeAnswer (first (row 3 (not (headRanges (record { volts = volts; unit = unit; boards = n }))) 0 noPart ∷ (boards-upper bs i ++ roomRows n room))) n
 
 -- ---- a question in capitals: its numbers and its answer
 abbrev pub upperFault : Fault → Fault

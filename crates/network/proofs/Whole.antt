@@ -9,16 +9,16 @@ use Rattle.paper.specs.declared.Head.{Head}
 use Rattle.paper.specs.declared.Refusal.{Refusal}
 use Rattle.paper.specs.declared.Lent.the-variants.{NetworkBytes}
 use Rattle.paper.specs.Bytes.{part}
-use Rattle.paper.specs.Rows.{first, _then_}
+use Rattle.paper.specs.Rows.{first}
 use Rattle.paper.specs.Label.{Label}
 use Rattle.paper.specs.File.{headOf, recordsOf, boardsOf}
 use Rattle.paper.specs.Chain.{placeOf}
-use Rattle.paper.specs.Refusal.{headRows, recordsRefusal, networkRefusal}
+use Rattle.paper.specs.Refusal.{headRows, recordsRows, recordsRefusal, networkRows, networkRefusal}
 use Rattle.records.specs.declared.Judged.{Judged}
 use Rattle.network.specs.declared.Network.{Network}
 use Rattle.paper.specs.declared.Outcome.the-variants.{Accepted}
 use Rattle.network.specs.Network.{headNumber, refusedNetwork, judged, networkOf}
-use Rattle.follows.proofs.Rows.{some-none}
+use Rattle.follows.proofs.Rows.{some-none, behind, ahead}
 use Rattle.records.specs.Judging.{judgedBy, judgement}
 use Rattle.records.proofs.Said.{all-kept, first-broken}
 use Rattle.network.proofs.Head.{too-short, head-broken, head-kept}
@@ -29,12 +29,12 @@ module _ (s : List ℕ) (l : Label) where
   by-refusal e = ap (λ (o : Option Refusal). judged o s l) (sym e)
 
   by-head : {r : Refusal} → first (headRows s) ≡ some r → networkRefusal s ≡ some r
-  unfolding networkRefusal _then_
-  by-head e = ap (λ (o : Option Refusal). o then recordsRefusal [] (recordsOf s)) e
+  unfolding networkRows
+  by-head e = ahead (headRows s) (recordsRows [] (recordsOf s)) e
 
   by-records : headNumber s ≡ 0 → networkRefusal s ≡ recordsRefusal [] (recordsOf s)
-  unfolding networkRefusal _then_
-  by-records e = ap (λ (o : Option Refusal). o then recordsRefusal [] (recordsOf s)) (head-kept s e)
+  unfolding networkRows
+  by-records e = behind (headRows s) (recordsRows [] (recordsOf s)) (head-kept s e)
 
   -- refused: what the rows then hold is nobody's
   refused-by : {X : Type 0} {n : Network} {r : Refusal} → networkRefusal s ≡ some r → n ≡ refusedNetwork r → (n ≡ networkOf s l) × (networkRefusal s ≡ none → X)

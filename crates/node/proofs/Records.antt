@@ -1,6 +1,6 @@
 -- The records of a network, one behind the other, and the refusal of the first that breaks a rule. Assumes nothing.
 use mathlib.Core.List.{List, [], _∷_, _++_}
-use mathlib.Core.Option.{Option, none, some}
+use mathlib.Core.Option.{none, some}
 use mathlib.Core.Path.{_≡_, refl, sym, _∙_, ap}
 use Prim.Native.Nat.{ℕ, zero, suc, _+_, _*_, _<_}
 use native.Mathlib.Omega.{arith}
@@ -9,11 +9,12 @@ use lib.Dec.{lit<}
 use lib.Seq.{getD-take, getD-drop, take-suc, drop-cons, drop-drop, drop-length, split-at}
 use Rattle.paper.specs.declared.Board.{Board}
 use Rattle.paper.specs.declared.Refusal.{Refusal}
-use Rattle.paper.specs.Rows.{_then_}
+use Rattle.paper.specs.Rows.{first}
 use Rattle.paper.specs.Bytes.{u16At}
 use Rattle.paper.specs.File.{markOf, headOf, boardOf, records, recordsOf, decoded, boardsOf}
 use Rattle.paper.specs.Chain.{Boards, noBoard}
-use Rattle.paper.specs.Refusal.{recordRefusal, inOrder, recordsRefusal}
+use Rattle.paper.specs.Refusal.{recordRows, inOrder, recordsRows, recordsRefusal}
+use Rattle.follows.proofs.Rows.{behind, ahead}
 
 -- ---- where a record stands
 pub records-length : (n : ℕ) (s : List ℕ) → length (records n s) ≡ n
@@ -90,20 +91,18 @@ module _ (net : List ℕ) where
   pub passed-none : Passed 0
   passed-none = refl
 
-  step : (i : ℕ) → i < count → Passed i → recordsRefusal [] (recordsOf net) ≡ recordRefusal (take i (boardsOf net)) (bytesOf i) then recordsRefusal (take (suc i) (boardsOf net)) (drop (suc i) (recordsOf net))
+  step : (i : ℕ) → i < count → Passed i → recordsRefusal [] (recordsOf net) ≡ first (recordRows (take i (boardsOf net)) (bytesOf i) ++ recordsRows (take (suc i) (boardsOf net)) (drop (suc i) (recordsOf net)))
   unfolding inOrder
   step i h p =
       p ∙ ap (recordsRefusal (take i (boardsOf net))) (rest-of i h)
-      ∙ ap (λ (bs : Boards). recordRefusal (take i (boardsOf net)) (bytesOf i) then recordsRefusal bs (drop (suc i) (recordsOf net))) (sym (before-next i h))
+      ∙ ap (λ (bs : Boards). first (recordRows (take i (boardsOf net)) (bytesOf i) ++ recordsRows bs (drop (suc i) (recordsOf net)))) (sym (before-next i h))
 
-  pub passed-next : (i : ℕ) → i < count → Passed i → recordRefusal (take i (boardsOf net)) (bytesOf i) ≡ none → Passed (suc i)
-  unfolding _then_
-  passed-next i h p e = step i h p ∙ ap (λ (o : Option Refusal). o then recordsRefusal (take (suc i) (boardsOf net)) (drop (suc i) (recordsOf net))) e
+  pub passed-next : (i : ℕ) → i < count → Passed i → first (recordRows (take i (boardsOf net)) (bytesOf i)) ≡ none → Passed (suc i)
+  passed-next i h p e = step i h p ∙ behind _ _ e
 
-  pub passed-refused : (i : ℕ) {r : Refusal} → i < count → Passed i → recordRefusal (take i (boardsOf net)) (bytesOf i) ≡ some r → recordsRefusal [] (recordsOf net) ≡ some r
-  unfolding _then_
-  passed-refused i h p e = step i h p ∙ ap (λ (o : Option Refusal). o then recordsRefusal (take (suc i) (boardsOf net)) (drop (suc i) (recordsOf net))) e
+  pub passed-refused : (i : ℕ) {r : Refusal} → i < count → Passed i → first (recordRows (take i (boardsOf net)) (bytesOf i)) ≡ some r → recordsRefusal [] (recordsOf net) ≡ some r
+  passed-refused i h p e = step i h p ∙ ahead _ _ e
 
   pub passed-all : (i : ℕ) → i ≡ count → Passed i → recordsRefusal [] (recordsOf net) ≡ none
-  unfolding inOrder
+  unfolding inOrder first
   passed-all i e p = p ∙ ap (λ (m : ℕ). recordsRefusal (take i (boardsOf net)) (drop m (recordsOf net))) (e ∙ sym recs-length) ∙ ap (recordsRefusal (take i (boardsOf net))) (drop-length (recordsOf net))

@@ -1,7 +1,7 @@
 -- 01, 'What the caller gets': the refusal table, 1 to 19, in its order (02, R-2: "18 is withdrawn, never reused"). Assumes nothing.
 use mathlib.Core.Bool.{Bool, not, _&&_, _||_}
 use mathlib.Core.List.{List, [], _∷_, _++_}
-use mathlib.Core.Option.{Option, none}
+use mathlib.Core.Option.{Option}
 use Prim.Native.Nat.{ℕ, suc, _+_, _*_}
 use lib.Dec.{ltb, eqb}
 use lib.ListN.{length}
@@ -13,7 +13,7 @@ use Rattle.paper.specs.declared.Lent.the-variants.{NetworkBytes, FaultBy
 use Rattle.paper.specs.declared.Part.{Part}
 use Rattle.paper.specs.Bytes.{sameBytes, oneOf, within, part}
 use Rattle.paper.specs.declared.Refusal.{Refusal}
-use Rattle.paper.specs.Rows.{Test, test, Row, row, rowsAt, first, _then_}
+use Rattle.paper.specs.Rows.{Test, test, Row, row, rowsAt, first}
 use Rattle.paper.specs.Label.{spaces, formed}
 use Rattle.paper.specs.Kind.{partOver, kindOf, known, standsAt, allHold, isStart}
 use Rattle.paper.specs.File.{markOf, HD, BD, FT, headOf, headSize, boardOf, boardSize, faultOf, faultSize, fileSize, startOf, recordsOf, boardsOf}
@@ -77,29 +77,29 @@ boardTests before b =
     ∷ []
 
 -- of a record's bytes: 5 before them, with the record's place and part
-unfoldable pub recordRefusal : Boards → List ℕ → Option Refusal
-recordRefusal before s = let r = suc (length before) in first (rowsAt r (theRecord r) (test 5 (not (eqb (markOf s) BD)) ∷ boardTests before (boardOf s)))
+unfoldable pub recordRows : Boards → List ℕ → List Row
+recordRows before s = let r = suc (length before) in rowsAt r (theRecord r) (test 5 (not (eqb (markOf s) BD)) ∷ boardTests before (boardOf s))
 
--- "5 to 11 are all tried on one record before the next.": each is judged behind the boards of those before it
-unfoldable pub inOrder : {A : Type 0} → (A → Board) → (Boards → A → Option Refusal) → Boards → List A → Option Refusal
-inOrder board judged before [] = none
-inOrder board judged before (a ∷ rest) = let later = inOrder board judged (before ++ (board a ∷ [])) rest in judged before a then later
+-- "5 to 11 are all tried on one record before the next.": each behind the boards of those before it
+unfoldable pub inOrder : {A : Type 0} → (A → Board) → (Boards → A → List Row) → Boards → List A → List Row
+inOrder board rows before [] = []
+inOrder board rows before (a ∷ rest) = let later = inOrder board rows (before ++ (board a ∷ [])) rest in rows before a ++ later
 
-abbrev pub recordsRefusal : Boards → List (List ℕ) → Option Refusal
-recordsRefusal = inOrder boardOf recordRefusal
+abbrev pub recordsRows : Boards → List (List ℕ) → List Row
+recordsRows = inOrder boardOf recordRows
 
 -- 02, R-1: of boards that are no bytes. 6 to 11, and "the part is the bytes tested, empty where there are none"
 abbrev pub noPart : Part
 noPart = part NetworkBytes 0 0
 
-unfoldable pub boardRefusal : Boards → Board → Option Refusal
-boardRefusal before b = first (rowsAt (suc (length before)) noPart (boardTests before b))
+unfoldable pub boardRows : Boards → Board → List Row
+boardRows before b = rowsAt (suc (length before)) noPart (boardTests before b)
 
-abbrev pub boardsRefusal : Boards → Boards → Option Refusal
-boardsRefusal = inOrder (λ b. b) boardRefusal
+abbrev pub boardsRows : Boards → Boards → List Row
+boardsRows = inOrder (λ b. b) boardRows
 
-unfoldable pub networkRefusal : List ℕ → Option Refusal
-networkRefusal net = first (headRows net) then recordsRefusal [] (recordsOf net)
+unfoldable pub networkRows : List ℕ → List Row
+networkRows net = headRows net ++ recordsRows [] (recordsOf net)
 
 -- ---- 12 to 19: the fault, and the room for the answer
 -- "phase over 2, or kind 0 with phase not 0"
@@ -124,9 +124,19 @@ faultRows bs s room =
     ∷ []
 
 -- ---- all of them in their order
-unfoldable pub refusal : List ℕ → List ℕ → ℕ → Option Refusal
-refusal net flt room = networkRefusal net then first (faultRows (boardsOf net) flt room)
+unfoldable pub solveRows : List ℕ → List ℕ → ℕ → List Row
+solveRows net flt room = networkRows net ++ faultRows (boardsOf net) flt room
+
+-- by the first that tests true
+abbrev pub recordsRefusal : Boards → List (List ℕ) → Option Refusal
+recordsRefusal before recs = first (recordsRows before recs)
+
+abbrev pub networkRefusal : List ℕ → Option Refusal
+networkRefusal net = first (networkRows net)
+
+abbrev pub refusal : List ℕ → List ℕ → ℕ → Option Refusal
+refusal net flt room = first (solveRows net flt room)
 
 unfoldable pub Refusal·open : Unit {0}
-unfolding headRanges headRows feederWrong kindWrong impedanceWrong sumWrong boardTests recordRefusal inOrder boardRefusal networkRefusal phaseWrong faultRows refusal
+unfolding headRanges headRows feederWrong kindWrong impedanceWrong sumWrong boardTests recordRows inOrder boardRows networkRows phaseWrong faultRows solveRows
 Refusal·open = tt

@@ -1,6 +1,6 @@
 -- 02, R-4: 'Why is there no earth return?': what the answer's cases say, the refusals, and the answer. Assumes nothing.
 use mathlib.Core.Bool.{Bool, true, false, not, _||_}
-use mathlib.Core.List.{List, [], _∷_}
+use mathlib.Core.List.{List, [], _∷_, _++_}
 use mathlib.Core.Option.{Option, none, some}
 use Prim.Native.Nat.{ℕ}
 use lib.Dec.{eqb}
@@ -10,11 +10,11 @@ use Rattle.paper.specs.declared.Lent.the-variants.{LabelBytes}
 use Rattle.paper.specs.declared.Refusal.{Refusal}
 use Rattle.paper.specs.declared.EarthReturn.{EarthReturn}
 use Rattle.paper.specs.declared.EarthReturn.the-variants.{From, Stopped, Refused}
-use Rattle.paper.specs.Rows.{Row, row, first, _then_}
+use Rattle.paper.specs.Rows.{Row, row, first}
 use Rattle.paper.specs.Label.{Label}
 use Rattle.paper.specs.File.{labelSize, boardsOf}
 use Rattle.paper.specs.Chain.{Boards, placeOf, partHead, Earth, no-earth, earth-at, earthOf}
-use Rattle.paper.specs.Refusal.{allOf, networkRefusal}
+use Rattle.paper.specs.Refusal.{allOf, networkRows}
 
 -- ---- the number and the values that an answer has: number 0 and a record, or the rule that is broken, its place and its part. An answer shows no bytes.
 pub record Said : Type 0 where
@@ -44,8 +44,11 @@ said (Refused w) = refusedBy w
 unfoldable pub labelRows : Boards → Label → List Row
 labelRows bs l = row 14 (not (eqb (length l) labelSize) || eqb (placeOf l bs) 0) 0 (allOf LabelBytes l) ∷ []
 
-unfoldable pub earthRefusal : List ℕ → Label → Option Refusal
-earthRefusal net l = networkRefusal net then first (labelRows (boardsOf net) l)
+unfoldable pub earthRows : List ℕ → Label → List Row
+earthRows net l = networkRows net ++ labelRows (boardsOf net) l
+
+abbrev pub earthRefusal : List ℕ → Label → Option Refusal
+earthRefusal net l = first (earthRows net l)
 
 -- ---- "r being where the zero sequence starts", or "r being the nearest record on the chain, going from the board to the source, of kind 1 or 5": either is the head of the board's part
 -- (theorems of `follows`, `UpToHead`)
@@ -65,5 +68,5 @@ unfoldable pub earthSaid : List ℕ → Label → Said
 earthSaid net l = let bs = boardsOf net in refusedOr (earthRefusal net l) (earthAt bs (placeOf l bs))
 
 unfoldable pub Return·open : Unit {0}
-unfolding said labelRows earthRefusal returnOf earthAt refusedOr earthSaid
+unfolding said labelRows earthRows returnOf earthAt refusedOr earthSaid
 Return·open = tt

@@ -1,5 +1,5 @@
 -- 01, 'What the caller gets': what a row of the refusal table is, and the order in which the rows are tried. Assumes nothing.
-use mathlib.Core.Bool.{Bool, true, false, cond}
+use mathlib.Core.Bool.{Bool, cond}
 use mathlib.Core.List.{List, [], _∷_}
 use mathlib.Core.Option.{Option, none, some}
 use Prim.Native.Nat.{ℕ}
@@ -24,11 +24,6 @@ unfoldable pub first : List Row → Option Refusal
 first [] = none
 first (row n b p s ∷ rest) = let later = first rest in cond b (some (record { part = s; place = p; number = n })) later
 
-infixr 20 _then_
-unfoldable pub _then_ : Option Refusal → Option Refusal → Option Refusal
-none then later = later
-some r then later = some r
-
 unfoldable pub Rows·open : Unit {0}
-unfolding rowsAt first _then_
+unfolding rowsAt first
 Rows·open = tt

@@ -11,10 +11,10 @@ use Rattle.paper.specs.declared.Head.{Head}
 use Rattle.paper.specs.declared.Board.{Board}
 use Rattle.paper.specs.declared.Refusal.{Refusal}
 use Rattle.paper.specs.declared.Written.{Written}
-use Rattle.paper.specs.Rows.{row, first, _then_}
+use Rattle.paper.specs.Rows.{Row, row, first}
 use Rattle.paper.specs.File.{HD, BD, fileSize}
 use Rattle.paper.specs.Chain.{Boards}
-use Rattle.paper.specs.Refusal.{headRanges, noPart, boardsRefusal}
+use Rattle.paper.specs.Refusal.{headRanges, noPart, boardsRows}
 
 -- ---- the file: the fields of 01, 'Files', in their order. "Little-endian."
 abbrev pub u16Bytes : ℕ → List ℕ
@@ -44,15 +44,15 @@ fileOf volts unit bs = headBytes (headFor volts unit bs) ++ boardsBytes bs
 
 -- ---- the refusals
 -- "20, output shorter than the file": of n boards
-abbrev pub tooShort : ℕ → ℕ → Option Refusal
-tooShort n room = first (row 20 (ltb room (fileSize n)) 0 noPart ∷ [])
+abbrev pub roomRows : ℕ → ℕ → List Row
+roomRows n room = row 20 (ltb room (fileSize n)) 0 noPart ∷ []
 
 -- "with 3 and 6 to 11 in the reader's order"; 20 "after all others"
-unfoldable pub writeRefusal : ℕ → ℕ → Boards → ℕ → Option Refusal
-writeRefusal volts unit bs room =
-    first (row 3 (not (headRanges (headFor volts unit bs))) 0 noPart ∷ [])
-    then boardsRefusal [] bs
-    then tooShort (length bs) room
+unfoldable pub writeRows : ℕ → ℕ → Boards → ℕ → List Row
+writeRows volts unit bs room = row 3 (not (headRanges (headFor volts unit bs))) 0 noPart ∷ (boardsRows [] bs ++ roomRows (length bs) room)
+
+abbrev pub writeRefusal : ℕ → ℕ → Boards → ℕ → Option Refusal
+writeRefusal volts unit bs room = first (writeRows volts unit bs room)
 
 -- ---- what the caller gets
 -- accepted: the file's length
@@ -72,5 +72,5 @@ unfoldable pub writeLeaves : ℕ → ℕ → Boards → List ℕ → List ℕ
 writeLeaves volts unit bs out = fills (writeRefusal volts unit bs (length out)) (fileOf volts unit bs) out
 
 unfoldable pub Write·open : Unit {0}
-unfolding little headBytes boardBytes boardsBytes fileOf writeRefusal writeAnswer writeVerdict fills writeLeaves
+unfolding little headBytes boardBytes boardsBytes fileOf writeRows writeAnswer writeVerdict fills writeLeaves
 Write·open = tt

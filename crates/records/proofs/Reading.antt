@@ -17,7 +17,8 @@ use Rattle.paper.specs.Label.{Label}
 use Rattle.paper.specs.Kind.{ohms}
 use Rattle.paper.specs.File.{markOf, boardOf, boardsOf, recordsOf}
 use Rattle.paper.specs.Chain.{Boards, lookFrom, placeOf, feederOf, earthOf, isNone, turnOf}
-use Rattle.paper.specs.Refusal.{feederWrong, sumWrong, recordsRefusal, recordRefusal, theRecord}
+use Rattle.paper.specs.Rows.{first}
+use Rattle.paper.specs.Refusal.{feederWrong, sumWrong, recordsRefusal, recordRows, theRecord}
 use Rattle.follows.proofs.Places.{place-most}
 use Rattle.paper.specs.Bounds.{AtMost}
 use Rattle.follows.proofs.Chain.{Z1-none, Z2-none, turn-none}
@@ -166,7 +167,7 @@ module _ (net : List ℕ) where
     broken-is : broken (suc (length before)) (markOf s) b (placeOf (b .label) (before ++ (b ∷ rest))) (placeOf (b .feeder) (before ++ (b ∷ rest))) ≡ broken (suc i) (markOf s) b own fed
     broken-is = λ j. broken (suc (so-far j)) (markOf s) b (placeOf (b .label) (sym split j)) (placeOf (b .feeder) (sym split j))
 
-    at-place : {n : ℕ} → recordRefusal before s ≡ some (record { part = theRecord (suc (length before)); place = suc (length before); number = n }) → recordsRefusal [] (recordsOf net) ≡ some (refusalOf n)
+    at-place : {n : ℕ} → first (recordRows before s) ≡ some (record { part = theRecord (suc (length before)); place = suc (length before); number = n }) → recordsRefusal [] (recordsOf net) ≡ some (refusalOf n)
     at-place {n} e = passed-refused net i h (read .passed) (e ∙ ap (λ (m : ℕ). some (record { part = theRecord (suc m); place = suc m; number = n })) so-far)
 
     module _ (few : count net ≤ 256) (up : Node) (up-right : up ≡ nodeOf before feeder) where

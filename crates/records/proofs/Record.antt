@@ -3,24 +3,22 @@ use mathlib.Core.Bool.{Bool, true, false, not, cond, _||_}
 use mathlib.Core.List.{List, [], _∷_, _++_}
 use mathlib.Core.Option.{Option, none, some}
 use mathlib.Core.Path.{_≡_, refl, sym, _∙_, ap}
-use Prim.Native.Nat.{ℕ, zero, suc, _+_, _≤_, _<_}
+use Prim.Native.Nat.{ℕ, zero, suc, _+_, _≤_}
 use native.Mathlib.Decide.{decLe}
 use native.Mathlib.Omega.{arith}
 use lib.Dec.{leb, eqb}
 use lib.ListN.{length}
-use borrow.Author.Tests.{eq-eqb, ne-eqb, eqb-true, eqb-false, le-leb, lt-leb, leb-true, leb-false, not-false}
+use borrow.Author.Tests.{eq-eqb, ne-eqb, le-leb, lt-leb, not-false}
 use Rattle.paper.specs.declared.Board.{Board}
 use Rattle.paper.specs.declared.Part.{Part}
 use Rattle.paper.specs.declared.Refusal.{Refusal}
-use Rattle.paper.specs.Bytes.{sameBytes}
-use Rattle.paper.specs.Label.{spaces, formed}
-use Rattle.paper.specs.Rows.{Test, test, Row, row, rowsAt, first}
+use Rattle.paper.specs.Label.{formed}
+use Rattle.paper.specs.Rows.{Test, test, rowsAt, first}
 use Rattle.paper.specs.File.{markOf, BD, boardOf}
 use Rattle.paper.specs.Chain.{Boards, placeOf}
-use Rattle.paper.specs.Refusal.{feederWrong, kindWrong, impedanceWrong, sumWrong, boardTests, recordRefusal, theRecord}
-use Rattle.follows.proofs.Places.{place-most}
+use Rattle.paper.specs.Refusal.{feederWrong, kindWrong, impedanceWrong, sumWrong, boardTests, recordRows, theRecord}
 use Rattle.lemmas.proofs.Bools.{same-by}
-use Rattle.follows.proofs.Fit.{Fit, fit}
+use Rattle.follows.proofs.Fit.{fit}
 use Rattle.node.specs.Node.{OwnSmall}
 use Rattle.records.specs.Rules.{fedWrong, numberOf, broken}
 use Rattle.records.proofs.Behind.{own-place, used-place, place-earlier, place-not-earlier}
@@ -116,8 +114,8 @@ module _ (before : Boards) (s : List ℕ) (rest : Boards) where
       ∷ test 10 (impedanceWrong (boardOf s))
       ∷ []
 
-  record-is : recordRefusal before s ≡ refusedAt place (theRecord place) (numberOf (six ++ (test 11 sums ∷ [])))
-  unfolding recordRefusal boardTests six
+  record-is : first (recordRows before s) ≡ refusedAt place (theRecord place) (numberOf (six ++ (test 11 sums ∷ [])))
+  unfolding recordRows boardTests six
   record-is =
       (λ i. first (rowsAt place (theRecord place)
       (test 5 (not (eqb (markOf s) BD)) ∷ test 6 (not (formed (boardOf s .label))) ∷ test 7 (not (sym (own-test before s rest) i)) ∷ test 8 (sym (fed-test before (boardOf s) rest) i)
@@ -127,19 +125,19 @@ module _ (before : Boards) (s : List ℕ) (rest : Boards) where
       ∷ [])))
       ∙ first-is place (theRecord place) (six ++ (test 11 sums ∷ [])) tt
 
-  pub record-broken : (n : ℕ) → broken place (markOf s) (boardOf s) own fed ≡ suc n → recordRefusal before s ≡ some (record { part = theRecord place; place = place; number = suc n })
+  pub record-broken : (n : ℕ) → broken place (markOf s) (boardOf s) own fed ≡ suc n → first (recordRows before s) ≡ some (record { part = theRecord place; place = place; number = suc n })
   unfolding broken six
   record-broken n e = record-is ∙ ap (refusedAt place (theRecord place)) (numbers-before six (test 11 sums ∷ []) (λ z. omega (arith, e, z)) ∙ e)
 
   -- with 5 to 10 kept, the sums decide
-  record-kept : broken place (markOf s) (boardOf s) own fed ≡ 0 → recordRefusal before s ≡ refusedAt place (theRecord place) (cond sums 11 0)
+  record-kept : broken place (markOf s) (boardOf s) own fed ≡ 0 → first (recordRows before s) ≡ refusedAt place (theRecord place) (cond sums 11 0)
   unfolding broken six numberOf
   record-kept e = record-is ∙ ap (refusedAt place (theRecord place)) (numbers-behind six (test 11 sums ∷ []) e tt)
 
-  pub record-over : broken place (markOf s) (boardOf s) own fed ≡ 0 → sums ≡ true → recordRefusal before s ≡ some (record { part = theRecord place; place = place; number = 11 })
+  pub record-over : broken place (markOf s) (boardOf s) own fed ≡ 0 → sums ≡ true → first (recordRows before s) ≡ some (record { part = theRecord place; place = place; number = 11 })
   record-over e h = record-kept e ∙ ap (λ (c : Bool). refusedAt place (theRecord place) (cond c 11 0)) h
 
-  pub record-passes : broken place (markOf s) (boardOf s) own fed ≡ 0 → sums ≡ false → recordRefusal before s ≡ none
+  pub record-passes : broken place (markOf s) (boardOf s) own fed ≡ 0 → sums ≡ false → first (recordRows before s) ≡ none
   record-passes e h = record-kept e ∙ ap (λ (c : Bool). refusedAt place (theRecord place) (cond c 11 0)) h
 
 -- ---- what the rules kept give: 5 to 10 each tested false

@@ -16,9 +16,10 @@ use Rattle.paper.specs.Bytes.{bytesAt, part}
 use Rattle.paper.specs.Label.{Label, spaces}
 use Rattle.paper.specs.File.{boardsOf}
 use Rattle.paper.specs.Chain.{Boards, placeOf, partHead, Earth, no-earth, earth-at, earthOf, isNone}
-use Rattle.paper.specs.Rows.{first, _then_}
-use Rattle.paper.specs.Refusal.{networkRefusal}
-use Rattle.paper.specs.Return.{Said, earthReturnFrom, noneStoppedAt, refusedBy, labelRows, earthRefusal, returnOf, earthAt, refusedOr, earthSaid}
+use Rattle.paper.specs.Rows.{first}
+use Rattle.paper.specs.Refusal.{networkRows, networkRefusal}
+use Rattle.paper.specs.Return.{Said, earthReturnFrom, noneStoppedAt, refusedBy, labelRows, earthRows, returnOf, earthAt, refusedOr, earthSaid}
+use Rattle.follows.proofs.Rows.{behind, ahead}
 use Rattle.follows.proofs.Parts.{head-between}
 use Rattle.follows.proofs.Places.{place-most}
 use Rattle.follows.proofs.Spelt.{all-bytes}
@@ -54,8 +55,8 @@ module _ (net : List ℕ) (l : Label) where
 
   -- ---- 1 to 11: g was read
   pub says-network : (w : Label) {g : Network} {why : Refusal} → g ≡ networkOf net w → g .outcome ≡ Refused why → refusedBy why ≡ earthSaid net l
-  unfolding earthSaid earthRefusal refusedOr _then_
-  says-network w read h = sym (ap (λ (o : Option Refusal). refusedOr (o then first (labelRows bs l)) (earthAt bs (placeOf l bs))) (network-broken net w read h))
+  unfolding earthSaid earthRows refusedOr
+  says-network w read h = sym (ap (λ (o : Option Refusal). refusedOr o (earthAt bs (placeOf l bs))) (ahead (networkRows net) (labelRows bs l) (network-broken net w read h)))
 
   -- ---- g was read and accepted, and k is where the label was found that the bytes say
   module _ (w : Label) {g : Network} {k : ℕ} (w-is : w ≡ cond (eqb (length l) 12) (bytesAt 12 l 0) spaces) (read : g ≡ networkOf net w) (taken : g .outcome ≡ Accepted) (k-is : k ≡ g .k) where
@@ -69,8 +70,8 @@ module _ (net : List ℕ) (l : Label) where
 
     -- 14: it has not twelve bytes, or no board has it
     pub says-unknown : {s : Said} → (not (eqb (length l) 12) || eqb k 0) ≡ true → s ≡ refusedBy (record { part = part LabelBytes 0 (length l); place = 0; number = 14 }) → s ≡ earthSaid net l
-    unfolding earthSaid earthRefusal refusedOr labelRows first _then_
-    says-unknown h e = e ∙ sym (rw (kept, same (eqb (length l) 12) refl ∙ h) refl)
+    unfolding earthSaid earthRows refusedOr labelRows first
+    says-unknown h e = e ∙ sym (rw (behind (networkRows net) (labelRows bs l) kept, same (eqb (length l) 12) refl ∙ h) refl)
       where
         same : (t : Bool) → eqb (length l) 12 ≡ t → (not (eqb (length l) 12) || eqb (placeOf l bs) 0) ≡ (not (eqb (length l) 12) || eqb k 0)
         same true q = ap (λ (m : ℕ). not (eqb (length l) 12) || eqb m 0) (sym (k-at (eqb-true (length l) 12 q)))

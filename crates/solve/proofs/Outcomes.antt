@@ -1,7 +1,7 @@
 -- Each outcome of a call, from the facts in the shape in which the branches have them: what the reader gave, what asking gave. Assumes nothing.
 use mathlib.Core.Bool.{Bool, cond}
 use mathlib.Core.List.{List}
-use mathlib.Core.Option.{Option, none, some}
+use mathlib.Core.Option.{none, some}
 use mathlib.Core.Path.{_≡_, sym, _∙_, ap}
 use Prim.Native.Nat.{ℕ, _≤_}
 use native.Mathlib.Omega.{arith}
@@ -16,11 +16,12 @@ use Rattle.paper.specs.Bytes.{bytesAt}
 use Rattle.paper.specs.Label.{Label, spaces}
 use Rattle.paper.specs.File.{faultOf, boardsOf}
 use Rattle.paper.specs.Chain.{placeOf}
-use Rattle.paper.specs.Rows.{first, _then_}
-use Rattle.paper.specs.Refusal.{theRecord, networkRefusal, faultRows, answerSize, refusal}
+use Rattle.paper.specs.Rows.{first}
+use Rattle.paper.specs.Refusal.{theRecord, networkRows, networkRefusal, faultRows, answerSize, solveRows, refusal}
 use Rattle.paper.specs.Phase.{asked}
 use Rattle.paper.specs.Amps.{amps}
 use Rattle.paper.specs.Answer.{numbers, accepted, refused}
+use Rattle.follows.proofs.Rows.{behind, ahead}
 use Rattle.follows.proofs.Given.{question}
 use Rattle.node.specs.declared.Node.{Node}
 use Rattle.node.specs.Node.{noNode}
@@ -40,8 +41,8 @@ use Rattle.solve.proofs.Promised.{Allowed, refused-verdict, refused-wri
 
 -- ---- 1 to 11: g was read
 pub refused-network : (net flt : List ℕ) (room : ℕ) (l : Label) {g : Network} {why : Refusal} → g ≡ networkOf net l → g .outcome ≡ Refused why → refusal net flt room ≡ some why
-unfolding refusal _then_
-refused-network net flt room l read h = ap (λ (o : Option Refusal). o then first (faultRows (boardsOf net) flt room)) (network-broken net l read h)
+unfolding solveRows
+refused-network net flt room l read h = ahead (networkRows net) (faultRows (boardsOf net) flt room) (network-broken net l read h)
 
 -- ---- g was read and accepted, and a was asked of it
 pub record Asking (net flt : List ℕ) (room : ℕ) (g : Network) (a : Question) : Type 0 where
@@ -68,8 +69,8 @@ module _ {net flt : List ℕ} {room : ℕ} {g : Network} {a : Question} (b : Ask
   as-told = b .told ∙ ap (λ (n : ℕ). askOf flt (g .k) n room) as-counted ∙ is-paper (boardsOf net) flt room (g .k) as-placed
 
   by-fault : refusal net flt room ≡ first (faultRows (boardsOf net) flt room)
-  unfolding refusal _then_
-  by-fault = ap (λ (o : Option Refusal). o then first (faultRows (boardsOf net) flt room)) (as-read .0)
+  unfolding solveRows
+  by-fault = behind (networkRows net) (faultRows (boardsOf net) flt room) (as-read .0)
 
   -- 12 to 19
   pub refused-fault : {why : Refusal} → a .outcome ≡ Refused why → refusal net flt room ≡ some why

@@ -12,11 +12,11 @@ use Rattle.paper.specs.declared.Part.{Part}
 use Rattle.paper.specs.declared.Refusal.{Refusal}
 use Rattle.paper.specs.File.{headOf, boardOf, faultOf, recordsOf, boardsOf}
 use Rattle.paper.specs.Chain.{Boards, placeOf, partHead, Earth, no-earth, earth-at, earthOf}
-use Rattle.paper.specs.Rows.{Test, test, Row, row, rowsAt, first, _then_}
-use Rattle.paper.specs.Refusal.{theRecord, headRows, recordRefusal, inOrder, recordsRefusal, networkRefusal, faultRows, refusal}
+use Rattle.paper.specs.Rows.{Test, test, Row, row, rowsAt, first}
+use Rattle.paper.specs.Refusal.{theRecord, headRows, recordRows, inOrder, recordsRows, recordsRefusal, networkRows, networkRefusal, faultRows, solveRows, refusal}
 use Rattle.paper.specs.Phase.{asked}
 use Rattle.paper.specs.Answer.{accepted, refused, answer, verdict}
-use Rattle.paper.specs.Return.{labelRows, earthRefusal, returnOf, earthAt, refusedOr, earthSaid}
+use Rattle.paper.specs.Return.{labelRows, earthRows, earthRefusal, returnOf, earthAt, refusedOr, earthSaid}
 use Rattle.follows.proofs.Rows.{clear}
 use Rattle.follows.proofs.Accepted.{accepted-network, accepted-fault}
 use Rattle.node.proofs.Records.{recs-length}
@@ -46,17 +46,18 @@ module _ (P : Part → Type 0) where
   shows-at p s (test n true ∷ ts) h = h
   shows-at p s (test n false ∷ ts) h = shows-at p s ts h
 
-  shows-then : (a b : Option Refusal) → Shows a → (a ≡ none → Shows b) → Shows (a then b)
-  unfolding _then_
-  shows-then none b h k = k refl
-  shows-then (some r) b h k = h
+  shows-behind : (rows later : List Row) → Shows (first rows) → (first rows ≡ none → Shows (first later)) → Shows (first (rows ++ later))
+  unfolding first
+  shows-behind [] later h k = k refl
+  shows-behind (row n true p s ∷ rows) later h k = h
+  shows-behind (row n false p s ∷ rows) later h k = shows-behind rows later h k
 
   -- a record's rules show the record
   shows-records : (last : ℕ) → ((r : ℕ) → 1 ≤ r → r ≤ last → P (theRecord r)) → (before : Boards) (recs : List (List ℕ)) → length before + length recs ≤ last → Shows (recordsRefusal before recs)
-  unfolding inOrder recordRefusal
+  unfolding inOrder recordRows first
   shows-records last h before [] l = tt
   shows-records last h before (x ∷ recs) l =
-      shows-then (recordRefusal before x) (recordsRefusal (before ++ (boardOf x ∷ [])) recs) (shows-at (suc (length before)) (theRecord (suc (length before))) _ (h (suc (length before)) (omega arith) (omega arith)))
+      shows-behind (recordRows before x) (recordsRows (before ++ (boardOf x ∷ [])) recs) (shows-at (suc (length before)) (theRecord (suc (length before))) _ (h (suc (length before)) (omega arith) (omega arith)))
       (λ e. shows-records last h (before ++ (boardOf x ∷ [])) recs (simp length-append (omega arith)))
 
 -- ---- of a network and a fault
@@ -91,12 +92,12 @@ module _ (net flt : List ℕ) where
       )
 
   network-in : Shows In (networkRefusal net)
-  unfolding networkRefusal
-  network-in = shows-then In (first (headRows net)) (recordsRefusal [] (recordsOf net)) head-in records-in
+  unfolding networkRows
+  network-in = shows-behind In (headRows net) (recordsRows [] (recordsOf net)) head-in records-in
 
   refusal-in : (room : ℕ) → Shows In (refusal net flt room)
-  unfolding refusal
-  refusal-in room = shows-then In (networkRefusal net) (first (faultRows (boardsOf net) flt room)) network-in (λ _. fault-in room)
+  unfolding solveRows
+  refusal-in room = shows-behind In (networkRows net) (faultRows (boardsOf net) flt room) network-in (λ _. fault-in room)
 
   accepted-in : (room : ℕ) → refusal net flt room ≡ none → In (accepted (asked net flt) .part)
   unfolding accepted asked
@@ -116,9 +117,9 @@ within net flt room = go (refusal net flt room) refl (refusal-in net flt room)
 
 -- the same of what is said about an earth return
 pub within-said : (net l : List ℕ) → Within (partSaid (earthSaid net l .shown)) net l
-unfolding earthSaid refusedOr earthRefusal earthAt returnOf labelRows
+unfolding earthSaid refusedOr earthRows earthAt returnOf labelRows
 within-said net l =
-    go (earthRefusal net l) (shows-then (In net l) (networkRefusal net) (first (labelRows (boardsOf net) l)) (network-in net l) (λ _. shows (In net l) (labelRows (boardsOf net) l) ((λ _. omega arith), λ _. tt)))
+    go (earthRefusal net l) (shows-behind (In net l) (networkRows net) (labelRows (boardsOf net) l) (network-in net l) (λ _. shows (In net l) (labelRows (boardsOf net) l) ((λ _. omega arith), λ _. tt)))
   where
     none-shown : (e : Earth) (h : ℕ) → Within (partSaid (returnOf e h .shown)) net l
     none-shown no-earth h = omega arith

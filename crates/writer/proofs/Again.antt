@@ -6,14 +6,13 @@ use Prim.Native.Nat.{ℕ, zero, suc, _+_, _*_, _<_}
 use native.Mathlib.Omega.{arith}
 use lib.ListN.{length, take, drop, length-take, length-drop, take-append-drop}
 use lib.Seq.{length-take-le, getD-take, getD-drop}
-use Rattle.paper.specs.Rows.{first, _then_}
 use Rattle.paper.specs.Bytes.{bytesAt}
 use Rattle.paper.specs.Bounds.{AtMost}
 use Rattle.paper.specs.File.{headOf, ohmsAt, boardOf, records, recordsOf, decoded, boardsOf}
 use Rattle.paper.specs.Chain.{Boards}
-use Rattle.paper.specs.Refusal.{headRows, recordRefusal, inOrder, recordsRefusal, networkRefusal}
+use Rattle.paper.specs.Refusal.{headRows, recordRows, inOrder, recordsRows, recordsRefusal, networkRows, networkRefusal}
 use Rattle.paper.specs.Write.{headBytes, boardsBytes, headFor, fileOf}
-use Rattle.follows.proofs.Rows.{then-none}
+use Rattle.follows.proofs.Rows.{both-none}
 use Rattle.follows.proofs.Accepted.{Network, accepted-network, record-tested}
 use Rattle.writer.specs.RoundTrip.{Typed, AllTyped, Bytes}
 use Rattle.writer.proofs.Bytes.{record-back, head-back}
@@ -45,7 +44,7 @@ unfolding records decoded boardsBytes inOrder
 records-again before zero [] l b e = (refl, tt)
 records-again before zero (x ∷ s) l b e = absurd (omega arith)
 records-again before (suc n) s l b e =
-    let (e1, e2) = then-none (recordRefusal before (take 44 s)) (recordsRefusal (before ++ (boardOf (take 44 s) ∷ [])) (records n (drop 44 s))) e in
+    let (e1, e2) = both-none (recordRows before (take 44 s)) (recordsRows (before ++ (boardOf (take 44 s) ∷ [])) (records n (drop 44 s))) e in
     let l44 : length (take 44 s) ≡ 44 = length-take-le 44 s (omega arith) in
     let (same, typed) = records-again (before ++ (boardOf (take 44 s) ∷ [])) n (drop 44 s) (omega (arith, length-drop 44 s)) (bytes-drop 44 s b) e2 in
     (ap₂ _++_ (record-back (take 44 s) l44 (bytes-take 44 s b) (record-tested before (take 44 s) e1 .0)) same ∙ take-append-drop 44 s, (board-typed (take 44 s) l44 (bytes-take 44 s b), typed))
@@ -56,8 +55,8 @@ module _ (net : List ℕ) (b : Bytes net) (e : networkRefusal net ≡ none) wher
   accepted = accepted-network net e
 
   kept : recordsRefusal [] (recordsOf net) ≡ none
-  unfolding networkRefusal
-  kept = then-none (first (headRows net)) (recordsRefusal [] (recordsOf net)) e .1
+  unfolding networkRows
+  kept = both-none (headRows net) (recordsRows [] (recordsOf net)) e .1
 
   both : (boardsBytes (boardsOf net) ≡ drop 8 net) × AllTyped (boardsOf net)
   unfolding boardsOf recordsOf

@@ -1,6 +1,6 @@
 -- "The writer refuses .. exactly the boards whose file the reader would refuse": one equation between the two refusals, with the reader's number and place. Assumes nothing.
 use mathlib.Core.Bool.{Bool, true, false, not}
-use mathlib.Core.List.{List, [], _∷_, _++_}
+use mathlib.Core.List.{List, [], _∷_, _++_, append-assoc}
 use mathlib.Core.Option.{Option, none, some}
 use mathlib.Core.Path.{_≡_, refl, sym, _∙_, ap, ap₂}
 use Prim.Native.Nat.{ℕ, suc, _+_, _≤_}
@@ -11,12 +11,12 @@ use borrow.Author.Tests.{le-ltb, eq-eqb}
 use Rattle.paper.specs.declared.Head.{Head}
 use Rattle.paper.specs.declared.Lent.the-variants.{NetworkBytes}
 use Rattle.paper.specs.declared.Refusal.{Refusal}
-use Rattle.paper.specs.Rows.{Test, test, row, rowsAt, first, _then_}
+use Rattle.paper.specs.Rows.{Test, test, Row, row, rowsAt, first}
 use Rattle.paper.specs.File.{markOf, HD, headOf, fileSize, recordsOf}
 use Rattle.paper.specs.Chain.{Boards}
-use Rattle.paper.specs.Refusal.{allOf, theHead, headRanges, headRows, noPart, boardTests, boardRefusal, inOrder, boardsRefusal, recordsRefusal, networkRefusal}
-use Rattle.paper.specs.Write.{tooShort, headFor, fileOf, writeRefusal}
-use Rattle.follows.proofs.Rows.{some-none}
+use Rattle.paper.specs.Refusal.{allOf, theHead, headRanges, headRows, noPart, boardTests, boardRows, inOrder, boardsRows, recordsRows, recordsRefusal, networkRows}
+use Rattle.paper.specs.Write.{roomRows, headFor, fileOf, writeRows, writeRefusal}
+use Rattle.follows.proofs.Rows.{some-none, _then_, first-then}
 use Rattle.writer.specs.RoundTrip.{AllTyped, unshown}
 use Rattle.writer.proofs.File.{file-long, file-mark, file-head, file-records}
 use Rattle.writer.proofs.Shown.{shown, all-shown}
@@ -26,11 +26,6 @@ unshown-then : (o p : Option Refusal) → unshown (o then p) ≡ unshown o then 
 unfolding unshown _then_
 unshown-then none p = refl
 unshown-then (some r) p = refl
-
-then-assoc : (o p q : Option Refusal) → o then (p then q) ≡ (o then p) then q
-unfolding _then_
-then-assoc none p q = refl
-then-assoc (some r) p q = refl
 
 unshown-shown : (o : Option Refusal) → unshown (shown o) ≡ unshown o
 unfolding unshown shown
@@ -48,11 +43,15 @@ bare-first r [] = refl
 bare-first r (test n true ∷ ts) = refl
 bare-first r (test n false ∷ ts) = bare-first r ts
 
-bare : (before bs : Boards) → unshown (boardsRefusal before bs) ≡ boardsRefusal before bs
-unfolding inOrder boardRefusal unshown
+bare : (before bs : Boards) → unshown (first (boardsRows before bs)) ≡ first (boardsRows before bs)
+unfolding inOrder boardRows unshown first
 bare before [] = refl
 bare before (b ∷ bs) =
-    unshown-then (boardRefusal before b) (boardsRefusal (before ++ (b ∷ [])) bs) ∙ ap₂ _then_ (bare-first (suc (length before)) (boardTests before b)) (bare (before ++ (b ∷ [])) bs)
+    let rows = boardRows before b in
+    let later = boardsRows (before ++ (b ∷ [])) bs in
+    ap unshown (first-then rows later) ∙ unshown-then (first rows) (first later)
+    ∙ ap₂ _then_ (bare-first (suc (length before)) (boardTests before b)) (bare (before ++ (b ∷ [])) bs)
+    ∙ sym (first-then rows later)
 
 -- ---- the file's refusal
 module _ (volts unit : ℕ) (bs : Boards) (ts : AllTyped bs) (v : volts ≤ 65535) (u : unit ≤ 65535) (n : length bs ≤ 65535) where
@@ -71,23 +70,29 @@ module _ (volts unit : ℕ) (bs : Boards) (ts : AllTyped bs) (v : volts ≤ 6553
       let e4 : eqb (length file) (fileSize (headOf file .boards)) ≡ true = eq-eqb _ _ (file-long volts unit bs ts ∙ ap (λ (h : Head). fileSize (h .boards)) (sym (file-head volts unit bs ts v u n))) in
       (λ i. first (row 1 (e1 i) 0 (allOf NetworkBytes file) ∷ row 2 (not (e2 i)) 0 theHead ∷ row 3 (e3 i) 0 theHead ∷ row 4 (not (e4 i)) 0 theHead ∷ []))
 
-  records-refusal : recordsRefusal [] (recordsOf file) ≡ shown (boardsRefusal [] bs)
+  records-refusal : recordsRefusal [] (recordsOf file) ≡ shown (first (boardsRows [] bs))
   records-refusal = ap (recordsRefusal []) (file-records volts unit bs ts v u n) ∙ all-shown [] bs ts
 
   -- so whoever judges the file judges the boards
-  pub boards-refusal : boardsRefusal [] bs ≡ unshown (recordsRefusal [] (recordsOf file))
-  boards-refusal = sym (ap unshown records-refusal ∙ unshown-shown (boardsRefusal [] bs) ∙ bare [] bs)
+  pub boards-refusal : first (boardsRows [] bs) ≡ unshown (recordsRefusal [] (recordsOf file))
+  boards-refusal = sym (ap unshown records-refusal ∙ unshown-shown (first (boardsRows [] bs)) ∙ bare [] bs)
 
-  pub refused-alike : (room : ℕ) → writeRefusal volts unit bs room ≡ unshown (networkRefusal file) then tooShort (length bs) room
-  unfolding writeRefusal networkRefusal unshown first
-  refused-alike room = sym (ap (λ (o : Option Refusal). unshown o then later) (ap₂ _then_ head-refusal records-refusal)
-      ∙ ap (λ (o : Option Refusal). o then later) (unshown-then (first (row 3 wrong 0 theHead ∷ [])) (shown (boardsRefusal [] bs)))
-      ∙ (λ i. (head-bare wrong i then (unshown-shown (boardsRefusal [] bs) ∙ bare [] bs) i) then later)
-      ∙ sym (then-assoc (first (row 3 wrong 0 noPart ∷ [])) (boardsRefusal [] bs) later))
+  -- the reader's rows, and 20 behind them
+  pub refused-alike : (room : ℕ) → writeRefusal volts unit bs room ≡ unshown (first (networkRows file ++ roomRows (length bs) room))
+  unfolding writeRows networkRows unshown first
+  refused-alike room =
+      first-then (row 3 wrong 0 noPart ∷ []) (boardsRows [] bs ++ later) ∙ ap₂ _then_ (head-bare wrong) (first-then (boardsRows [] bs) later ∙ ap₂ _then_ boards-refusal (room-bare (ltb room (fileSize (length bs)))))
+      ∙ ap₂ _then_ (ap unshown (sym head-refusal)) (sym (unshown-then (recordsRefusal [] (recordsOf file)) (first later)) ∙ ap unshown (sym (first-then (recordsRows [] (recordsOf file)) later)))
+      ∙ sym (unshown-then (first (headRows file)) (first (recordsRows [] (recordsOf file) ++ later)))
+      ∙ ap unshown (sym (first-then (headRows file) (recordsRows [] (recordsOf file) ++ later)) ∙ ap first (sym (append-assoc (headRows file) (recordsRows [] (recordsOf file)) later)))
     where
-      later : Option Refusal
-      later = tooShort (length bs) room
+      later : List Row
+      later = roomRows (length bs) room
 
-      head-bare : (w : Bool) → unshown (first (row 3 w 0 theHead ∷ [])) ≡ first (row 3 w 0 noPart ∷ [])
+      head-bare : (w : Bool) → first (row 3 w 0 noPart ∷ []) ≡ unshown (first (row 3 w 0 theHead ∷ []))
       head-bare true = refl
       head-bare false = refl
+
+      room-bare : (w : Bool) → first (row 20 w 0 noPart ∷ []) ≡ unshown (first (row 20 w 0 noPart ∷ []))
+      room-bare true = refl
+      room-bare false = refl

@@ -17,11 +17,12 @@ use Rattle.paper.specs.declared.Refusal.{Refusal}
 use Rattle.paper.specs.declared.Written.{Written}
 use Rattle.paper.specs.Bytes.{within}
 use Rattle.paper.specs.Label.{Label}
-use Rattle.paper.specs.Rows.{first, _then_}
+use Rattle.paper.specs.Rows.{first}
 use Rattle.paper.specs.File.{headOf, fileSize, recordsOf}
 use Rattle.paper.specs.Chain.{Boards}
-use Rattle.paper.specs.Refusal.{headRanges, noPart, boardsRefusal, recordsRefusal}
-use Rattle.paper.specs.Write.{tooShort, headBytes, boardsBytes, headFor, fileOf, writeRefusal, writeAnswer, writeVerdict, fills, writeLeaves}
+use Rattle.paper.specs.Refusal.{headRanges, noPart, boardsRows, recordsRefusal}
+use Rattle.paper.specs.Write.{roomRows, headBytes, boardsBytes, headFor, fileOf, writeRows, writeRefusal, writeAnswer, writeVerdict, fills, writeLeaves}
+use Rattle.follows.proofs.Rows.{_then_, first-then}
 use Rattle.follows.proofs.Accepted.{head-ranges}
 use Rattle.records.specs.declared.Judged.{Judged}
 use Rattle.records.specs.Judging.{judgement}
@@ -59,7 +60,7 @@ ranges-are volts unit {n} bs g = ap (λ (w : Bool). within 1 1000 volts && withi
 
 -- 3
 pub wrong-head : (volts unit n room : ℕ) {page : List ℕ} → not (headRanges (headSaid volts unit n)) ≡ true → Refuses volts unit n room page (because 3 0)
-unfolding writeRefusal first _then_
+unfolding writeRows first
 wrong-head volts unit n room w bs g = rw (ap not (sym (ranges-are volts unit bs g)) ∙ w) refl
 
 -- ---- the head keeps the ranges
@@ -136,15 +137,16 @@ module _ {volts unit n : ℕ} {page later : List ℕ} (h : HeadPut volts unit n 
     unfolding fileOf
     is-file = file-is ∙ (λ i. headBytes (record { volts = volts; unit = unit; boards = (k-n ∙ g .many) i }) ++ stand i)
 
-    behind-3 : (room : ℕ) → writeRefusal volts unit bs room ≡ boardsRefusal [] bs then tooShort n room
-    unfolding writeRefusal first _then_
-    behind-3 room = rw (ap not (sym (ranges-are volts unit bs g)) ∙ h .kept) (λ i. boardsRefusal [] bs then tooShort (sym (g .many) i) room)
+    behind-3 : (room : ℕ) → writeRefusal volts unit bs room ≡ first (boardsRows [] bs ++ roomRows n room)
+    unfolding writeRows first
+    behind-3 room = rw (ap not (sym (ranges-are volts unit bs g)) ∙ h .kept) (λ i. first (boardsRows [] bs ++ roomRows (sym (g .many) i) room))
 
-    by-file : (room : ℕ) {o : Option Refusal} → recordsRefusal [] (recordsOf file) ≡ o → writeRefusal volts unit bs room ≡ unshown o then tooShort n room
+    by-file : (room : ℕ) {o : Option Refusal} → recordsRefusal [] (recordsOf file) ≡ o → writeRefusal volts unit bs room ≡ unshown o then first (roomRows n room)
     by-file room e =
-        behind-3 room ∙ ap (λ (o : Option Refusal). o then tooShort n room) (boards-refusal volts unit bs (g .typed) (h .volts-fit) (h .unit-fit) few-given)
-        ∙ ap (λ (s : List ℕ). unshown (recordsRefusal [] (recordsOf s)) then tooShort n room) (sym is-file)
-        ∙ ap (λ (o : Option Refusal). unshown o then tooShort n room) e
+        behind-3 room ∙ first-then (boardsRows [] bs) (roomRows n room)
+        ∙ ap (λ (o : Option Refusal). o then first (roomRows n room)) (boards-refusal volts unit bs (g .typed) (h .volts-fit) (h .unit-fit) few-given)
+        ∙ ap (λ (s : List ℕ). unshown (recordsRefusal [] (recordsOf s)) then first (roomRows n room)) (sym is-file)
+        ∙ ap (λ (o : Option Refusal). unshown o then first (roomRows n room)) e
 
   module _ (room : ℕ) (l : Label) {j : Judged} (j-is : j ≡ judgement file l) where
     -- 6 to 11
@@ -152,7 +154,7 @@ module _ {volts unit n : ℕ} {page later : List ℕ} (h : HeadPut volts unit n 
     unfolding unshown _then_
     wrong-board f bs g = by-file bs g room (first-broken file l j-is f)
 
-    only-room : j .number ≡ 0 → (bs : Boards) → OnPage bs n page → writeRefusal volts unit bs room ≡ tooShort n room
+    only-room : j .number ≡ 0 → (bs : Boards) → OnPage bs n page → writeRefusal volts unit bs room ≡ first (roomRows n room)
     unfolding unshown _then_
     only-room z bs g = by-file bs g room (records-kept file l j-is z)
 

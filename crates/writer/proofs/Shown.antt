@@ -2,16 +2,17 @@
 use mathlib.Core.Bool.{true, false}
 use mathlib.Core.List.{List, [], _∷_, _++_}
 use mathlib.Core.Option.{Option, none, some}
-use mathlib.Core.Path.{_≡_, refl, _∙_, ap, ap₂}
+use mathlib.Core.Path.{_≡_, refl, sym, _∙_, ap, ap₂}
 use Prim.Native.Nat.{ℕ, suc}
 use lib.ListN.{length}
 use borrow.Author.Tests.{eq-eqb}
 use Rattle.paper.specs.declared.Board.{Board}
 use Rattle.paper.specs.declared.Refusal.{Refusal}
-use Rattle.paper.specs.Rows.{Test, test, rowsAt, first, _then_}
+use Rattle.paper.specs.Rows.{Test, test, rowsAt, first}
 use Rattle.paper.specs.File.{markOf, BD, boardOf}
 use Rattle.paper.specs.Chain.{Boards}
-use Rattle.paper.specs.Refusal.{theRecord, noPart, boardTests, recordRefusal, inOrder, recordsRefusal, boardRefusal, boardsRefusal}
+use Rattle.paper.specs.Refusal.{theRecord, noPart, boardTests, recordRows, inOrder, recordsRefusal, boardRows, boardsRows}
+use Rattle.follows.proofs.Rows.{_then_, first-then}
 use Rattle.paper.specs.Write.{boardBytes}
 use Rattle.writer.specs.RoundTrip.{AllTyped, Typed}
 use Rattle.writer.proofs.Bytes.{board-mark, board-back}
@@ -34,15 +35,17 @@ first-shown r (test n true ∷ ts) = refl
 first-shown r (test n false ∷ ts) = first-shown r ts
 
 -- one, behind the boards before it
-one-shown : (before : Boards) (b : Board) → Typed b → recordRefusal before (boardBytes b) ≡ shown (boardRefusal before b)
-unfolding recordRefusal boardRefusal first rowsAt
+one-shown : (before : Boards) (b : Board) → Typed b → first (recordRows before (boardBytes b)) ≡ shown (first (boardRows before b))
+unfolding recordRows boardRows first rowsAt
 one-shown before b t =
     rw (eq-eqb (markOf (boardBytes b)) BD (board-mark b t)) (first-shown (suc (length before)) (boardTests before (boardOf (boardBytes b))))
     ∙ ap (λ (d : Board). shown (first (rowsAt (suc (length before)) noPart (boardTests before d)))) (board-back b t)
 
-pub all-shown : (before bs : Boards) → AllTyped bs → recordsRefusal before (laid bs) ≡ shown (boardsRefusal before bs)
-unfolding inOrder laid shown
+pub all-shown : (before bs : Boards) → AllTyped bs → recordsRefusal before (laid bs) ≡ shown (first (boardsRows before bs))
+unfolding inOrder laid shown first
 all-shown before [] t = refl
 all-shown before (b ∷ bs) (t, ts) =
-    ap₂ _then_ (one-shown before b t) (ap (λ (d : Board). recordsRefusal (before ++ (d ∷ [])) (laid bs)) (board-back b t) ∙ all-shown (before ++ (b ∷ [])) bs ts)
-    ∙ shown-then (boardRefusal before b) (boardsRefusal (before ++ (b ∷ [])) bs)
+    first-then (recordRows before (boardBytes b)) _
+    ∙ ap₂ _then_ (one-shown before b t) (ap (λ (d : Board). recordsRefusal (before ++ (d ∷ [])) (laid bs)) (board-back b t) ∙ all-shown (before ++ (b ∷ [])) bs ts)
+    ∙ shown-then (first (boardRows before b)) (first (boardsRows (before ++ (b ∷ [])) bs))
+    ∙ ap shown (sym (first-then (boardRows before b) (boardsRows (before ++ (b ∷ [])) bs)))

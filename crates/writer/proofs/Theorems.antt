@@ -15,13 +15,13 @@ use lib.Seq.{take-at, drop-at}
 use borrow.Author.Tests.{le-ltb, ltb-false, not-false}
 use Rattle.paper.specs.declared.Head.{Head}
 use Rattle.paper.specs.declared.Refusal.{Refusal}
-use Rattle.paper.specs.Rows.{row, first, _then_}
+use Rattle.paper.specs.Rows.{row, first}
 use Rattle.paper.specs.File.{headOf, fileSize, boardsOf}
 use Rattle.paper.specs.Chain.{Boards}
-use Rattle.paper.specs.Refusal.{headRanges, noPart, boardsRefusal, networkRefusal}
-use Rattle.paper.specs.Write.{tooShort, headFor, fileOf, writeRefusal, writeAnswer, writeVerdict, fills, writeLeaves}
+use Rattle.paper.specs.Refusal.{headRanges, noPart, boardsRows, networkRows, networkRefusal}
+use Rattle.paper.specs.Write.{roomRows, headFor, fileOf, writeRows, writeRefusal, writeAnswer, writeVerdict, fills, writeLeaves}
 use Rattle.lemmas.proofs.Bools.{untrue}
-use Rattle.follows.proofs.Rows.{clear, then-none}
+use Rattle.follows.proofs.Rows.{clear, behind, both-none}
 use Rattle.follows.proofs.Accepted.{HeadRanges, head-ranges, Network, accepted-network}
 use Rattle.writer.specs.RoundTrip.{AllTyped, Bytes, ReadBack, unshown}
 use Rattle.writer.proofs.File.{file-long, file-head, file-boards}
@@ -31,7 +31,7 @@ use Rattle.writer.proofs.Again.{read-typed, file-again}
 module _ (volts unit : ℕ) (bs : Boards) where
   -- ---- 3, of so many boards that no file could say so
   pub too-many : (room : ℕ) → 256 < length bs → writeRefusal volts unit bs room ≡ some (record { part = noPart; place = 0; number = 3 })
-  unfolding writeRefusal first _then_
+  unfolding writeRows first
   too-many room h = rw (untrue (headRanges (headFor volts unit bs)) (λ t. let n = head-ranges (headFor volts unit bs) t .boards-range .1 in omega arith)) refl
 
   -- ---- 4
@@ -57,12 +57,12 @@ module _ (volts unit : ℕ) (bs : Boards) where
 
       -- the buffer is long enough, and as long as it was
       tests : (not (headRanges (headFor volts unit bs)) ≡ false) × (len ≤ length out)
-      unfolding writeRefusal
+      unfolding writeRows
       tests =
-          let (e3, later) = then-none (first (row 3 (not (headRanges (headFor volts unit bs))) 0 noPart ∷ [])) (boardsRefusal [] bs then tooShort (length bs) (length out)) e in
-          let (e6, e20) = then-none (boardsRefusal [] bs) (tooShort (length bs) (length out)) later in
+          let (e3, later) = both-none (row 3 (not (headRanges (headFor volts unit bs))) 0 noPart ∷ []) (boardsRows [] bs ++ roomRows (length bs) (length out)) e in
+          let (e6, e20) = both-none (boardsRows [] bs) (roomRows (length bs) (length out)) later in
           let (c3, _) = clear (row 3 (not (headRanges (headFor volts unit bs))) 0 noPart ∷ []) e3 in
-          let (c20, _) = clear (row 20 (ltb (length out) (fileSize (length bs))) 0 noPart ∷ []) e20 in
+          let (c20, _) = clear (roomRows (length bs) (length out)) e20 in
           (c3, omega (arith, len-is, ltb-false (length out) (fileSize (length bs)) c20))
 
       pub as-long : length (writeLeaves volts unit bs out) ≡ length out
@@ -82,7 +82,7 @@ module _ (volts unit : ℕ) (bs : Boards) where
           let n : length bs ≤ 65535 = omega (arith, in-ranges .boards-range .1) in
           subst (ReadBack volts unit bs) (sym written-file)
           (record {
-            accepted = unshown-none (networkRefusal (fileOf volts unit bs)) (then-none _ _ (sym (refused-alike volts unit bs t v u n (length out)) ∙ e) .0);
+            accepted = both-none (networkRows (fileOf volts unit bs)) (roomRows (length bs) (length out)) (unshown-none _ (sym (refused-alike volts unit bs t v u n (length out)) ∙ e)) .0;
             same-head = file-head volts unit bs t v u n;
             same-boards = file-boards volts unit bs t v u n;
           })
@@ -96,19 +96,18 @@ module _ (net out : List ℕ) (b : Bytes net) (e : networkRefusal net ≡ none) 
   network = accepted-network net e
 
   -- of the rules 20 alone may refuse it
-  only-20 : (room : ℕ) → writeRefusal (h .volts) (h .unit) (boardsOf net) room ≡ tooShort (length (boardsOf net)) room
-  unfolding unshown _then_
+  only-20 : (room : ℕ) → writeRefusal (h .volts) (h .unit) (boardsOf net) room ≡ unshown (first (roomRows (length (boardsOf net)) room))
   only-20 room =
       refused-alike (h .volts) (h .unit) (boardsOf net) (read-typed net b e) (omega (arith, network .head-in .volts-range .1)) (omega (arith, network .head-in .unit-range .1)) (omega (arith, network .head-in .boards-range .1, network .count)) room
-      ∙ ap (λ (s : List ℕ). unshown (networkRefusal s) then tooShort (length (boardsOf net)) room) (file-again net b e)
-      ∙ ap (λ (o : Option Refusal). unshown o then tooShort (length (boardsOf net)) room) e
+      ∙ ap (λ (s : List ℕ). unshown (first (networkRows s ++ roomRows (length (boardsOf net)) room))) (file-again net b e)
+      ∙ ap unshown (behind (networkRows net) (roomRows (length (boardsOf net)) room) e)
 
   size : length net ≡ fileSize (length (boardsOf net))
   size = network .size ∙ ap fileSize (sym (network .count))
 
   module _ (room : length net ≤ length out) where
     taken : writeRefusal (h .volts) (h .unit) (boardsOf net) (length out) ≡ none
-    unfolding first
+    unfolding first unshown
     taken = only-20 (length out) ∙ rw (le-ltb (length out) (fileSize (length (boardsOf net))) (omega (arith, size))) refl
 
     pub written-again : (writeVerdict (h .volts) (h .unit) (boardsOf net) (length out) ≡ record { part = noPart; len = length net; place = 0; number = 0 }) × (writeLeaves (h .volts) (h .unit) (boardsOf net) out ≡ net ++ drop (length net) out)
