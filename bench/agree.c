@@ -5,6 +5,7 @@
 
 static int64_t ours[RANJUPELI_MOST], exact[RANJUPELI_MOST];
 static double near[MOST_DOUBLES];
+static int numbers[256];
 
 static int same_answer(ranjupeli_answer a, ranjupeli_answer b) {
     return a.number == b.number && a.place == b.place && a.n == b.n && a.amps == b.amps && a.owner == b.owner && a.start == b.start && a.len == b.len;
@@ -33,6 +34,7 @@ int agree(const question *q) {
     ranjupeli_answer a = ranjupeli_solve(q->network, q->network_len, q->fault, 20, ours, RANJUPELI_MOST);
     ranjupeli_answer b = exact_solve(q->network, q->network_len, q->fault, 20, exact, RANJUPELI_MOST);
     ranjupeli_answer c = doubles_solve(q->network, q->network_len, q->fault, 20, near, MOST_DOUBLES);
+    numbers[a.number]++;
     if (!same_answer(a, b) || memcmp(ours, exact, sizeof ours) != 0)
         printf("the exact yardstick differs: %d %d %d %llu, not %d %d %d %llu\n", b.number, b.place, b.n, (unsigned long long)b.amps, a.number, a.place, a.n, (unsigned long long)a.amps);
     else if (!all_near(a, c))
@@ -56,12 +58,13 @@ static int each_fault(question *q) {
 }
 
 static int questions_agree(question *q) {
-    int more = each_fault(q), torn = damaged(q, agree);
+    int more = each_fault(q), torn = damaged(q, agree), without = forgetful(q, agree);
     unearth(q);
     int bare = each_fault(q);
-    return more && torn && bare ? more + torn + bare : 0;
+    return more && torn && without && bare ? more + torn + without + bare : 0;
 }
 
 int agree_on_many(void) {
-    return on_networks(questions_agree);
+    int asked = on_networks(questions_agree);
+    return asked && all_came("solve", numbers, 0xfff | 1 << 14 | 1 << 16 | 1 << 21) ? asked : 0;
 }

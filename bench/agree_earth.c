@@ -56,13 +56,13 @@ static int each_label(question *q) {
 }
 
 static int labels_agree(question *q) {
-    int more = each_label(q), torn = damaged(q, agree_on_two);
+    int more = each_label(q), torn = damaged(q, agree_on_two), without = forgetful(q, agree_on_two);
     unearth(q);
     int bare = each_label(q), worse = damaged(q, agree_on_two);
-    return more && torn && bare && worse ? more + torn + bare + worse : 0;
+    return more && torn && without && bare && worse ? more + torn + without + bare + worse : 0;
 }
 
 int agree_on_many_labels(void) {
     int asked = on_networks(labels_agree);
-    return asked && all_came("earth", numbers[0], 1 << 14 | 0xfff) && all_came("earth, with one", numbers[1], 1) ? asked : 0;
+    return asked && all_came("earth", numbers[0], 0xfff | 1 << 14 | 1 << 21) && all_came("earth, with one", numbers[1], 1) ? asked : 0;
 }

@@ -61,6 +61,13 @@ int agree_on_file(const question *q) {
     return 0;
 }
 
+/* Written or refused: the question's boards, which need not be sound. */
+static int agree_on_boards(const question *q) {
+    static list l;
+    listed(&l, q);
+    return in_every_room(&l);
+}
+
 static void spoil_head(list *l) {
     static const uint16_t edges[] = {0, 1, 9, 10, 1000, 1001, 65535};
     switch (chance(3)) {
@@ -78,7 +85,7 @@ static void spoil_head(list *l) {
 static void spoil_board(list *l) {
     ranjupeli_board *b = &l->boards[chance((uint32_t)l->n)], *other = &l->boards[chance((uint32_t)l->n)];
     ranjupeli_ohms *z[4] = {&b->z1, &b->z2, &b->z0, &b->zn};
-    switch (chance(9)) {
+    switch (chance(10)) {
     case 0:
         memcpy(b->label, other->label, 12);
         break;
@@ -102,6 +109,9 @@ static void spoil_board(list *l) {
         break;
     case 7:
         (chance(2) ? b->label : b->feeder)[chance(12)] ^= 0x20;
+        break;
+    case 8:
+        b->z1 = b->z2 = (ranjupeli_ohms){0, 0};
         break;
     default:
         ((uint8_t *)b)[chance(sizeof *b)] = (uint8_t)chance(256);
@@ -128,11 +138,11 @@ static int spoilt(const question *q) {
 }
 
 static int files_agree(question *q) {
-    int sound = agree_on_file(q), more = sound ? spoilt(q) : 0;
-    return more ? sound + more : 0;
+    int sound = agree_on_file(q), without = sound ? forgetful(q, agree_on_boards) : 0, more = without ? spoilt(q) : 0;
+    return more ? sound + without + more : 0;
 }
 
 int agree_on_many_files(void) {
     int tried = on_networks(files_agree);
-    return tried && all_came("write", numbers, 1 << 0 | 1 << 3 | 0x3f << 6 | 1 << 20) ? tried : 0;
+    return tried && all_came("write", numbers, 1 << 0 | 1 << 3 | 0x3f << 6 | 1 << 20 | 1 << 21) ? tried : 0;
 }

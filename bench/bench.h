@@ -16,6 +16,8 @@ typedef struct {
 extern const char *const shape_names[SHAPES];
 void make_network(question *q, int shape, int n);
 void unearth(question *q);
+/* the last record, and its board, as one of another kind with such impedances: z1, z2, z0, zn */
+void put_last(question *q, int kind, const ranjupeli_ohms z[4]);
 void make_fault(question *q, int k, int kind, int phase, int r, int x);
 uint32_t chance(uint32_t below);
 
@@ -29,6 +31,8 @@ ranjupeli_earth_return exact_earth(const uint8_t *network, size_t network_len, c
 int on_networks(int (*agreed)(question *));
 /* the network with one to three bytes changed or cut off, each time another, mostly refused, each time by another rule: the same */
 int damaged(const question *whole, int (*agreed)(const question *));
+/* the last record as a cable and as each transformer, with z1 zero or nearly so, alone and with another rule broken: the same */
+int forgetful(const question *whole, int (*agreed)(const question *));
 /* whether exactly these numbers came, a bit for each */
 int all_came(const char *who, const int came[256], uint32_t which);
 

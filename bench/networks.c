@@ -101,6 +101,15 @@ void unearth(question *q) {
     }
 }
 
+void put_last(question *q, int kind, const ranjupeli_ohms z[4]) {
+    uint8_t *s = q->network + RANJUPELI_FILE(q->n - 1);
+    s[26] = (uint8_t)kind;
+    s[27] = kind >= 4 ? 11 : 0;
+    for (int i = 0; i < 4; i++)
+        put_ohms(s + 28 + 4 * i, z[i].r, z[i].x);
+    take_board(&q->boards[q->n - 1], s);
+}
+
 void make_fault(question *q, int k, int kind, int phase, int r, int x) {
     memcpy(q->fault, "FT", 2);
     put_label(q->fault + 2, k);

@@ -37,6 +37,11 @@ static inline int impedance_wrong(record f) {
     }
 }
 
+/* 21: a transformer whose impedance was forgotten; the kind is one of 0 to 5 */
+static inline int forgotten(record f) {
+    return f.kind >= 3 && is_zero(f.z1);
+}
+
 /* The board's zero sequence, from its record and its feeder's: the head of its part, and if that has an earth return the sum from there on. */
 static inline void zero_sequence(board *b, const board *up, size_t r, record f) {
     ohms term = earthed(f.z0, f.zn); /* a cable's zn is zero */
@@ -56,7 +61,7 @@ static inline int head_wrong(uint16_t volts, uint16_t unit, size_t n) {
     return volts < 1 || volts > 1000 || unit < 10 || unit > 1000 || n < 1 || n > BOARDS;
 }
 
-/* Record r, behind r - 1 that are kept: the number of the first of 6 to 11 that it breaks, or 0 and its board. */
+/* Record r, behind r - 1 that are kept: the number of the first of 6 to 10, 21 and 11 that it breaks, or 0 and its board. */
 static inline uint8_t judge(board *boards, size_t r, record f) {
     static const board none;
     if (!formed(f.label))
@@ -72,6 +77,8 @@ static inline uint8_t judge(board *boards, size_t r, record f) {
         return 9;
     if (impedance_wrong(f))
         return 10;
+    if (forgotten(f))
+        return 21;
     const board *up = b->feeder ? &boards[b->feeder - 1] : &none;
     b->z1 = plus(up->z1, f.z1);
     b->z2 = plus(up->z2, f.z2);
@@ -80,7 +87,7 @@ static inline uint8_t judge(board *boards, size_t r, record f) {
     return over(b->z1, MOST) || over(b->z2, MOST) || over(b->z0, MOST) ? 11 : 0;
 }
 
-/* 1 to 11. Accepted: number 0. */
+/* 1 to 10, 21 and 11. Accepted: number 0. */
 static inline ranjupeli_answer read_network(network *w, const uint8_t *s, size_t len) {
     if (len < HEAD)
         return refused(1, 0, RANJUPELI_NETWORK, 0, len);

@@ -1,6 +1,7 @@
 /* What those that must agree are tried on: networks of all shapes and sizes, and damaged ones. */
 #include "bench.h"
 #include <stdio.h>
+#include <string.h>
 
 int on_networks(int (*agreed)(question *)) {
     static question q;
@@ -16,7 +17,7 @@ int on_networks(int (*agreed)(question *)) {
     return all;
 }
 
-/* A byte of another value, the bit of a letter's case changed, in a label or not, a large part of an impedance, or the network cut off. */
+/* A byte of another value, the bit of a letter's case changed, in a label or not, a large part of an impedance, z1 and z2 zero, or the network cut off. */
 static void damage(question *q, int small) {
     uint8_t *s = &q->network[chance((uint32_t)q->network_len)];
     switch (chance(16)) {
@@ -31,6 +32,9 @@ static void damage(question *q, int small) {
         break;
     case 6: case 7: case 8: case 9:
         q->fault[2 + chance(12)] ^= 0x20;
+        break;
+    case 10: /* a cable may be so, a transformer not */
+        memset(q->network + RANJUPELI_FILE(chance((uint32_t)q->n)) + 28, 0, 8);
         break;
     default:
         *s = (uint8_t)chance(small ? 6 : 256);
@@ -48,6 +52,32 @@ int damaged(const question *whole, int (*agreed)(const question *)) {
             return 0;
         all += more;
     }
+    return all;
+}
+
+int forgetful(const question *whole, int (*agreed)(const question *)) {
+    static const ranjupeli_ohms tries[][4] = {
+        {{0, 0}, {0, 0}, {0, 0}, {0, 0}},    /* 21, but of a cable */
+        {{0, 1}, {0, 1}, {0, 0}, {0, 0}},    /* one part is enough, */
+        {{1, 0}, {1, 0}, {0, 0}, {0, 0}},
+        {{0, 256}, {0, 256}, {0, 0}, {0, 0}},
+        {{256, 0}, {256, 0}, {0, 0}, {0, 0}},
+        {{0, 0}, {0, 0}, {3, 4}, {0, 0}},    /* and one of z0 is not */
+        {{0, 0}, {0, 1}, {0, 0}, {0, 0}},    /* 10 comes first, */
+        {{0, 0}, {0, 0}, {4096, 0}, {0, 0}},
+        {{0, 0}, {0, 0}, {0, 0}, {0, 1366}}, /* and 11 later */
+        {{0, 1}, {0, 1}, {0, 0}, {0, 1366}},
+    };
+    int all = 0;
+    for (int kind = RANJUPELI_CABLE; kind <= RANJUPELI_BLOCKING; kind++)
+        for (size_t i = 0; i < sizeof tries / sizeof *tries; i++) {
+            question q = *whole;
+            put_last(&q, kind, tries[i]);
+            int more = agreed(&q);
+            if (!more)
+                return 0;
+            all += more;
+        }
     return all;
 }
 

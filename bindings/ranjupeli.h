@@ -39,7 +39,7 @@ extern "C" {
 #define RANJUPELI_LONGEST RANJUPELI_FILE(256)
 
 /* the numbers of an answer: 0, or the rule that was broken first, in the order in which they are tested.
- * ranjupeli_solve gives 0 to 17 and 19, ranjupeli_write 0, 3, 6 to 11 and 20, ranjupeli_earth 0 to 11 and 14.
+ * ranjupeli_solve gives 0 to 17, 19 and 21, ranjupeli_write 0, 3, 6 to 11, 20 and 21, ranjupeli_earth 0 to 11, 14 and 21.
  * No answer has 18 any more, and none will: it refused earth faults at boards without earth return, which are answered now. */
 enum {
     RANJUPELI_ACCEPTED = 0,
@@ -53,6 +53,7 @@ enum {
     RANJUPELI_FEEDER = 8,           /* feeder: none of the source, an earlier label of others */
     RANJUPELI_KIND_OR_CLOCK = 9,    /* kind or clock, or kind in the wrong record */
     RANJUPELI_IMPEDANCE = 10,       /* impedance over 4,095 or against the kind's rule */
+    RANJUPELI_FORGOTTEN = 21,       /* transformer (kinds 3 to 5) with z1 zero: tested behind 10, before 11 */
     RANJUPELI_SUM = 11,             /* part of Z1, Z2 or an existing Z0 over 4,095 */
     RANJUPELI_FAULT_LENGTH = 12,    /* fault not 20 bytes */
     RANJUPELI_FAULT_MARK = 13,      /* fault mark */
@@ -120,7 +121,7 @@ enum {
 
 /* A board, and the cable or transformer that feeds it. The source stands first, every other board after its feeder. */
 typedef struct {
-    ranjupeli_ohms z1;  /* of the set, cable or transformer, in positive sequence: what its data sheet gives */
+    ranjupeli_ohms z1;  /* of the set, cable or transformer, in positive sequence: what its data sheet gives; only a cable's may be zero */
     ranjupeli_ohms z2;  /* in negative sequence: as z1, but for a set */
     ranjupeli_ohms z0;  /* in zero sequence, with the way back through the protective conductor: often several times z1 */
     ranjupeli_ohms zn;  /* between star point and earth, entered once; 0 for a plain strap, and for a cable */
@@ -197,6 +198,7 @@ static inline const char *ranjupeli_sentence(unsigned number) {
     case RANJUPELI_FEEDER: return "the source has a feeder, or a record's feeder is no earlier label";
     case RANJUPELI_KIND_OR_CLOCK: return "a record's kind or clock is wrong, or the kind stands in the wrong record";
     case RANJUPELI_IMPEDANCE: return "an impedance is over 4,095 or against the rule of the record's kind";
+    case RANJUPELI_FORGOTTEN: return "a transformer has no impedance: z1 is zero";
     case RANJUPELI_SUM: return "a part of an impedance summed over a board's chain is over 4,095";
     case RANJUPELI_FAULT_LENGTH: return "the fault does not have 20 bytes";
     case RANJUPELI_FAULT_MARK: return "the fault does not begin with FT";

@@ -65,6 +65,38 @@ static void say_boards(void) {
     plan();
 }
 
+/* A transformer in place of the first cable, its reactances as given; the next plan mends it. */
+static void say_transformer(const char *what, uint16_t z1, uint16_t z2, uint16_t zn, size_t room) {
+    ranjupeli_board *b = &boards[1];
+    b->kind = RANJUPELI_DELTA_STAR;
+    b->clock = 11;
+    b->z1.x = z1;
+    b->z2.x = z2;
+    b->zn.x = zn;
+    say(what, 230, 1000, 3, room);
+    plan();
+}
+
+/* z1 zero: 21 of a transformer, behind 10 and before 11, and nothing of a cable. */
+static void say_forgotten(void) {
+    say_transformer(", a transformer without z1", 0, 0, 0, sizeof out);
+    say_transformer(", a transformer without z1", 0, 0, 0, 0);
+    say_transformer(", a transformer without z1, with another z2", 0, 20, 0, sizeof out);
+    say_transformer(", a transformer without z1, with a sum of 4,098", 0, 0, 1366, sizeof out);
+    say_transformer(", a transformer with a sum of 4,098", 20, 20, 1366, sizeof out);
+    say_transformer(", a transformer of one count", 1, 1, 0, sizeof out);
+    boards[2].z1.x = boards[2].z2.x = 4076;
+    say_transformer(", a transformer without z1 before a sum of 4,096", 0, 0, 0, sizeof out);
+    boards[1].z1.x = boards[1].z2.x = 4076;
+    boards[2].kind = RANJUPELI_STAR_STAR;
+    boards[2].z1.x = boards[2].z2.x = 0;
+    say(", a transformer without z1 behind a sum of 4,096", 230, 1000, 3, sizeof out);
+    plan();
+    boards[2].z1.x = boards[2].z2.x = 0;
+    say(", a cable of no length", 230, 1000, 3, sizeof out);
+    plan();
+}
+
 static void say_rooms(void) {
     static const size_t rooms[] = {0, RANJUPELI_FILE(3) - 1, RANJUPELI_FILE(3), RANJUPELI_FILE(3) + 1};
     for (size_t i = 0; i < sizeof rooms / sizeof *rooms; i++)
@@ -75,6 +107,7 @@ int main(void) {
     plan();
     say_head();
     say_boards();
+    say_forgotten();
     say_rooms();
     return 0;
 }

@@ -1,5 +1,5 @@
 #!/usr/bin/env python3
-"""Writes crates/figures/stdin and stdout: the figures of 01 that are run, those of R-2 and R-3, 003's one-phase example, and what answering each gives by the oracle."""
+"""Writes crates/figures/stdin and stdout: the figures of 01 that are run, those of R-2, R-3 and R-6, 003's one-phase example, and what answering each gives by the oracle."""
 import os
 import oracle
 from oracle import fault, head, record, w16
@@ -92,6 +92,18 @@ case(net(GEN, BOOTH, TENT), fault('TENT', 3, 1), FULL)
 case(net(GEN, BOOTH, record('Booth-West-1', 'GEN', 2, 0, (1, 1), (1, 1), (1, 1), NONE)), fault('GEN', 0, 0), FULL)
 for a, b in ('@`', '[{', 'Aa', 'Zz'):
     case(net(GEN, record('B' + a, 'gen', 2, 0, J(1), J(1), J(1), NONE)), fault('b' + b, 1, 0), 13 + 24 * 2)
+# 02, R-6: a transformer with z1 zero is refused (21), after 10 and before 11, and before the fault is looked at; one part is enough, and a cable may be of no length
+for kind, clock in ((2, 0), (3, 0), (4, 11), (5, 6)):
+    for z in (NONE, J(1), (1, 0)):
+        case(net(GEN, BOOTH, record('HALL', 'GEN', kind, clock, z, z, NONE, NONE)), fault('HALL', 1, 0), FULL)
+    # 10 first, 11 later
+    for zs in ((NONE, J(1), NONE, NONE), (NONE, NONE, J(4096), NONE), (NONE, NONE, NONE, J(1366)), (J(1), J(1), NONE, J(1366))):
+        case(net(GEN, BOOTH, record('HALL', 'GEN', kind, clock, *zs)), fault('HALL', 1, 0), FULL)
+FORGOTTEN = record('HALL', 'GEN', 4, 11, NONE, NONE, J(20), NONE)
+FAR = record('FAR', 'GEN', 2, 0, J(4076), J(4076), NONE, NONE)
+case(net(GEN, FAR, FORGOTTEN), fault('GEN', 0, 0), FULL)
+case(net(GEN, FORGOTTEN, FAR), fault('GEN', 0, 0), FULL)
+case(net(GEN, BOOTH, FORGOTTEN), b'', 0)
 # 003, one phase to earth: Z 1696, 1696, 1999 reactive, 5.5648 per unit in all: 1,000 V and 10 microohms make it 55,648 A
 case(net(record('G', '', 0, 0, J(1696), J(1696), J(1999), NONE), volts=1000, unit=10), fault('G', 1, 0), 37)
 # a network refused before its fault is looked at

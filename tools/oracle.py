@@ -1,5 +1,5 @@
-"""The paper (01, and R-1 and R-2 of 02) a second time, in plain Python with whole numbers only. Written from the papers and not from the project's code:
-expected outputs and figures come from here, so that the two can disagree. Nothing in the gate runs it."""
+"""The paper (01, and R-1 to R-4 and R-6 of 02) a second time, in plain Python with whole numbers only. Written from the papers and not from the project's code:
+expected outputs and figures come from here, so that the two can disagree. In the gate tests/programs asks it; the files of the other programs were written by it before."""
 from math import isqrt
 
 # ---- the number: x0 + x1 t + x2 t^2 + x3 t^3, t^4 = t^2 - 1
@@ -73,7 +73,7 @@ class Refused(Exception):
 
 
 def network(net):
-    """head and boards (from index 1 on), or Refused by the first of 1 to 11"""
+    """head and boards (from index 1 on), or Refused by the first of 1 to 10, 21 and 11"""
     if len(net) < 8:
         raise Refused(1, 0, ('network', 0, len(net)))
     part = ('network', 0, 8)
@@ -104,7 +104,7 @@ def decoded(b):
 
 
 def judged(board, r, before, part):
-    """a decoded board as record r, with its chain and sums, or Refused by the first of 6 to 11"""
+    """a decoded board as record r, with its chain and sums, or Refused by the first of 6 to 10, 21 and 11: of a file that is read, and of one that is written"""
     label, feeder, kind, clock, (z1, z2, z0, zn) = board
 
     def refuse(number):
@@ -133,6 +133,9 @@ def judged(board, r, before, part):
     wrong |= kind >= 2 and z1 != z2
     if wrong:
         refuse(10)
+    # 02, R-6: "Kinds 3, 4 and 5 with z1 zero are to be refused", "tested after 10 and before 11"
+    if kind in (3, 4, 5) and z1 == none:
+        refuse(21)
     up = before[fed] if fed else None
     own0 = z0 if kind == 2 else (z0[0] + 3 * zn[0], z0[1] + 3 * zn[1])
     new = dict(label=label, kind=kind, z1=z1, z2=z2, t0=own0, clock=clock)

@@ -32,6 +32,7 @@ DAMAGE = {
     8: lambda r: put(r, 14, oracle.label('NOWHERE')),
     9: lambda r: put(r, 26, bytes([6])),
     10: lambda r: put(r, 28, w16(4096)),
+    21: lambda r: put(r, 28, bytes(8)),  # of a source it is 10, of a cable nothing
     11: lambda r: put(r, 28, w16(4095) + w16(4095) + w16(4095) + w16(4095)),
 }
 
@@ -52,10 +53,12 @@ for r in (1, 3, 5):
     for rule in DAMAGE:
         cases.append(net(broken(SOUND, r, rule)))
 # two rules in one record, two records
-for a, b in ((5, 6), (6, 8), (7, 8), (8, 9), (9, 10), (5, 10), (6, 10)):
+for a, b in ((5, 6), (6, 8), (7, 8), (8, 9), (9, 10), (5, 10), (6, 10), (5, 21), (8, 21), (9, 21)):
     cases.append(net(broken(SOUND, 4, a, b)))
-for early, late in ((11, 5), (9, 7), (10, 6), (8, 5)):
+for early, late in ((11, 5), (9, 7), (10, 6), (8, 5), (11, 21), (10, 21)):
     cases.append(net(broken(broken(SOUND, 2, early), 4, late)))
+for early, late in ((21, 5), (21, 10), (21, 11), (21, 21), (10, 21), (11, 21)):
+    cases.append(net(broken(broken(SOUND, 3, early), 4, late)))
 # labels and feeders
 twin = record('BOOTH-WEST-2', 'BOOTH-WEST-1', 2, 0, (1, 1), (1, 1), (1, 1), NONE)
 cases += [net(SOUND + [twin]), net(SOUND + [put(twin, 2, oracle.label('BOOTH-WEST-1'))]), net(SOUND + [put(twin, 14, oracle.label('BOOTH-WEST-2'))])]
@@ -81,6 +84,15 @@ for kind in (1, 5):
 for zn in (1365, 1366):
     cases.append(net([record('GEN', '', 0, 0, J(20), J(20), NONE, J(zn))]))
 cases += [net([record('GEN', '', 0, 0, NONE, J(20), J(5), J(5))]), net([record('GEN', '', 0, 0, J(20), NONE, J(5), J(5))])]
+# 02, R-6: a transformer with z1 zero, behind 10 and before 11; one part of z1 is enough, no other impedance is, and a cable may be of no length
+for kind, clock in ((2, 0), (3, 0), (4, 11), (5, 6)):
+    for zs in ((NONE, NONE, NONE, NONE), (J(1), J(1), NONE, NONE), ((1, 0), (1, 0), NONE, NONE), (J(256), J(256), NONE, NONE), ((256, 0), (256, 0), NONE, NONE),
+               (NONE, NONE, (3, 4), NONE), (NONE, NONE, NONE, (3, 4)), (NONE, J(1), NONE, NONE), (J(1), NONE, NONE, NONE), (NONE, NONE, J(4096), NONE),
+               (NONE, NONE, J(4095), NONE), (NONE, NONE, NONE, J(1366)), (J(1), J(1), NONE, J(1366))):
+        cases.append(net(SOUND[:1] + [record('X', 'GEN', kind, clock, *zs)]))
+# 21 at record 3 with 11 at record 2, and the other way round; behind a cable of no length
+far, nothing = record('FAR', 'GEN', 2, 0, J(4076), J(4076), NONE, NONE), record('HALL', 'GEN', 4, 11, NONE, NONE, J(20), NONE)
+cases += [net(SOUND[:1] + [far, nothing]), net(SOUND[:1] + [nothing, far]), net(SOUND[:1] + [record('X', 'GEN', 2, 0, NONE, NONE, NONE, NONE), put(nothing, 14, oracle.label('X'))])]
 # as many boards as there may be
 many = [SOUND[0]] + [record('B%d' % i, 'GEN' if i < 3 else 'B%d' % (i - 2), 2, 0, J(1), J(1), J(1), NONE) for i in range(1, 256)]
 cases += [net(many), net(broken(many, 256, 11))]

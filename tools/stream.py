@@ -18,6 +18,12 @@ THREE = head(230, 1000, 3) + GEN + BOOTH + HALL
 FOUR = head(400, 100, 4) + GEN + BOOTH + HALL + BLOCK
 FULL = 13 + 24 * 3
 SOUND = fault('HALL', 1, 2, (3, 4))
+# 02, R-6: transformers of each kind with z1 zero; one with another z2 (10), one with a sum over 4,095; and sound ones: of one part, of the other, a cable of no length
+EDGES = [record('HALL', 'GEN', *rest) for rest in (
+    (3, 0, NONE, NONE, J(1), J(1)), (4, 11, NONE, NONE, J(20), NONE), (5, 6, NONE, NONE, NONE, NONE),
+    (4, 11, NONE, J(1), J(20), NONE), (4, 11, NONE, NONE, NONE, J(1366)),
+    (3, 0, J(1), J(1), NONE, NONE), (4, 1, (1, 0), (1, 0), NONE, NONE), (2, 0, NONE, NONE, NONE, NONE))]
+FAR = record('FAR', 'GEN', 2, 0, J(4076), J(4076), NONE, NONE)
 solving = [
     # each kind of fault; two elements more than there are numbers
     (THREE, fault('GEN', 0, 0), FULL),
@@ -38,6 +44,10 @@ solving = [
     (THREE, fault('Booth-West-1', 1, 0), FULL),
     (head(230, 1000, 2) + GEN + record('Booth-West-1', 'gEN', 2, 0, (30, 10), (30, 10), (90, 30), NONE), fault('BOOTH-WEST-1', 1, 0), 13 + 24 * 2),
     (THREE, fault('BOOTH\rWEST-1', 1, 0), FULL),
+    # 02, R-6: the edges of 21; 11 at the record before, at the one behind
+    *((head(230, 1000, 3) + GEN + BOOTH + b, SOUND, FULL) for b in EDGES),
+    (head(230, 1000, 3) + GEN + FAR + EDGES[0], SOUND, 0),
+    (head(230, 1000, 3) + GEN + EDGES[0] + FAR, SOUND[:19], 2),
     # a short buffer, and none
     (THREE, SOUND, FULL - 1),
     (THREE, SOUND, 0),
@@ -55,7 +65,7 @@ def board(*fields, mark=b'??', label=None):
     return b if label is None else b[:2] + label + b[14:]
 
 
-WGEN, WBOOTH, WHALL = (b'??' + b[2:] for b in (GEN, BOOTH, HALL))
+WGEN, WBOOTH, WHALL, WFAR, *WEDGES = (b'??' + b[2:] for b in (GEN, BOOTH, HALL, FAR, *EDGES))
 W3 = [WGEN, WBOOTH, WHALL]
 LONG = 8 + 44 * 3
 MANY = [WGEN] + [board('B%d' % i, 'GEN' if i < 3 else 'B%d' % (i - 2), 2, 0, J(1), J(1), J(1), NONE) for i in range(1, 372)]
@@ -82,6 +92,11 @@ writing = [
     # 02, R-3: labels typed in another case, kept as they are typed; one that is used already
     (230, 1000, [WGEN, board('Booth-West-1', 'gEN', 2, 0, (30, 10), (30, 10), (90, 30), NONE), board('HALL', 'bOOTH-wEST-1', 4, 11, J(20), J(20), J(20), NONE)], LONG),
     (230, 1000, [WGEN, WBOOTH, board('booth-west-1', 'GEN', 4, 11, J(20), J(20), J(20), NONE)], LONG),
+    # 02, R-6: the same, and with no output
+    *((230, 1000, [WGEN, WBOOTH, b], LONG) for b in WEDGES),
+    (230, 1000, [WGEN, WFAR, WEDGES[1]], LONG),
+    (230, 1000, [WGEN, WEDGES[1], WFAR], LONG),
+    (230, 1000, [WGEN, WEDGES[2]], 0),
     # the most of each: boards and output
     (230, 1000, MANY, 16400),
     (230, 1000, [WGEN], 16400),
@@ -108,6 +123,10 @@ tracing = [
     (b'', gen),
     (THREE[:-1], gen[:11]),
     (head(230, 1000, 3) + GEN + BOOTH + BOOTH, gen),
+    # 02, R-6: 21 among them
+    *((head(230, 1000, 3) + GEN + BOOTH + b, hall) for b in EDGES),
+    (head(230, 1000, 3) + GEN + FAR + EDGES[1], gen),
+    (head(230, 1000, 3) + GEN + EDGES[1] + FAR, gen[:11]),
     (THREE.ljust(16400, b'\0'), gen),
 ]
 

@@ -7,7 +7,8 @@ use ranjupeli::Outcome;
 use std::io::Read;
 
 fn print_numbers() {
-    for number in 0..=Outcome::ShortOutput as u8 {
+    // the greatest, though not the last to be tested
+    for number in 0..=Outcome::Forgotten as u8 {
         println!("{number} {}", lines::sentence(number));
     }
 }

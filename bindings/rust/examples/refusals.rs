@@ -51,9 +51,36 @@ fn say_boards() {
     say_spoilt(", a sum of 4,096", 0, far);
 }
 
+// A transformer in place of the first cable, its reactances as given.
+fn transformer(z1: u16, z2: u16, zn: u16) -> impl Fn(&mut [Board]) {
+    let j = |x| Ohms { r: 0, x };
+    move |b| b[1] = Board { kind: kind::DELTA_STAR, clock: 11, z1: j(z1), z2: j(z2), zn: j(zn), ..b[1] }
+}
+
+// z1 zero: 21 of a transformer, behind 10 and before 11, and nothing of a cable.
+fn say_forgotten() {
+    let (none, z) = (Ohms::default(), Ohms { r: 0, x: 4076 });
+    say_spoilt(", a transformer without z1", ALL, transformer(0, 0, 0));
+    say_spoilt(", a transformer without z1", 0, transformer(0, 0, 0));
+    say_spoilt(", a transformer without z1, with another z2", ALL, transformer(0, 20, 0));
+    say_spoilt(", a transformer without z1, with a sum of 4,098", ALL, transformer(0, 0, 1366));
+    say_spoilt(", a transformer with a sum of 4,098", ALL, transformer(20, 20, 1366));
+    say_spoilt(", a transformer of one count", ALL, transformer(1, 1, 0));
+    say_spoilt(", a transformer without z1 before a sum of 4,096", ALL, |b| {
+        transformer(0, 0, 0)(b);
+        b[2] = Board { z1: z, z2: z, ..b[2] };
+    });
+    say_spoilt(", a transformer without z1 behind a sum of 4,096", ALL, |b| {
+        b[1] = Board { z1: z, z2: z, ..b[1] };
+        b[2] = Board { kind: kind::STAR_STAR, z1: none, z2: none, ..b[2] };
+    });
+    say_spoilt(", a cable of no length", ALL, |b| b[2] = Board { z1: none, z2: none, ..b[2] });
+}
+
 fn main() {
     say_head();
     say_boards();
+    say_forgotten();
     for room in [0, file(3) - 1, file(3), file(3) + 1] {
         say_spoilt("", room, |_| ());
     }

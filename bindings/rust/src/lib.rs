@@ -29,7 +29,7 @@ pub const fn file(boards: usize) -> usize {
 pub const LONGEST: usize = file(256);
 
 /// What an answer's number says: 0, or the rule that was broken first, in the order in which they are tested.
-/// [`solve`] gives 0 to 17 and 19, [`write()`] 0, 3, 6 to 11 and 20, [`earth`] 0 to 11 and 14.
+/// [`solve`] gives 0 to 17, 19 and 21, [`write()`] 0, 3, 6 to 11, 20 and 21, [`earth`] 0 to 11, 14 and 21.
 /// No answer has 18 any more, and none will: it refused earth faults at boards without earth return, which are answered now.
 #[non_exhaustive]
 #[repr(u8)]
@@ -56,6 +56,8 @@ pub enum Outcome {
     KindOrClock = 9,
     /// Impedance over 4,095 or against the kind's rule.
     Impedance = 10,
+    /// Transformer (kinds 3 to 5) with z1 zero: tested behind 10, before 11.
+    Forgotten = 21,
     /// Part of Z1, Z2 or an existing Z0 over 4,095.
     Sum = 11,
     /// Fault not 20 bytes.
@@ -76,7 +78,7 @@ pub enum Outcome {
     ShortOutput = 20,
 }
 
-const OUTCOMES: [Outcome; 20] = [
+const OUTCOMES: [Outcome; 21] = [
     Outcome::Accepted,
     Outcome::ShortNetwork,
     Outcome::HeadMark,
@@ -88,6 +90,7 @@ const OUTCOMES: [Outcome; 20] = [
     Outcome::Feeder,
     Outcome::KindOrClock,
     Outcome::Impedance,
+    Outcome::Forgotten,
     Outcome::Sum,
     Outcome::FaultLength,
     Outcome::FaultMark,
@@ -119,6 +122,7 @@ impl Outcome {
             Outcome::Feeder => "the source has a feeder, or a record's feeder is no earlier label",
             Outcome::KindOrClock => "a record's kind or clock is wrong, or the kind stands in the wrong record",
             Outcome::Impedance => "an impedance is over 4,095 or against the rule of the record's kind",
+            Outcome::Forgotten => "a transformer has no impedance: z1 is zero",
             Outcome::Sum => "a part of an impedance summed over a board's chain is over 4,095",
             Outcome::FaultLength => "the fault does not have 20 bytes",
             Outcome::FaultMark => "the fault does not begin with FT",
@@ -180,7 +184,7 @@ pub mod kind {
 #[repr(C)]
 #[derive(Clone, Copy, Debug, Default, PartialEq, Eq, Hash)]
 pub struct Board {
-    /// Of the set, cable or transformer, in positive sequence: what its data sheet gives.
+    /// Of the set, cable or transformer, in positive sequence: what its data sheet gives; only a cable's may be zero.
     pub z1: Ohms,
     /// In negative sequence: as z1, but for a set.
     pub z2: Ohms,

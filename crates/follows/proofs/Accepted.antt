@@ -1,4 +1,4 @@
--- What acceptance gives, in names: of a network (1 to 11), and of a fault and the room for its answer (12 to 19). Assumes nothing.
+-- What acceptance gives, in names: of a network, and of a fault and the room for its answer (12 to 19). Assumes nothing.
 use mathlib.Core.Bool.{true, false, not, _&&_}
 use mathlib.Core.List.{List, [], _∷_, _++_, append-nil, append-assoc}
 use mathlib.Core.Option.{none}

@@ -24,6 +24,8 @@ pub mod Numbered
 pub mod Fit
 pub mod Sound
 pub mod Accepted
+-- 02, R-6: the table with its row 21, and without it
+pub mod Forgotten
 -- the numbers R + jX, bare
 pub mod Flat
 -- the fault table: its rows, D as a natural number, the divisor

@@ -47,7 +47,7 @@ Recorded w = (0 < w .number) × (1 ≤ w .place) × (w .part ≡ theRecord (w .p
 
 record-recorded : (before : Boards) (s : List ℕ) → Each Recorded (recordRows before s)
 unfolding recordRows rowsAt boardTests
-record-recorded before s = (by 5 tt, (by 6 tt, (by 7 tt, (by 8 tt, (by 9 tt, (by 10 tt, (by 11 tt, tt)))))))
+record-recorded before s = (by 5 tt, (by 6 tt, (by 7 tt, (by 8 tt, (by 9 tt, (by 10 tt, (by 21 tt, (by 11 tt, tt))))))))
   where
     by : (n : ℕ) → T (ltb 0 n) → Recorded (record { part = theRecord (suc (length before)); place = suc (length before); number = n })
     by n t = (ltb→lt 0 n t, omega arith, refl)

@@ -131,7 +131,7 @@ unfolding decoded
 boards-seen [] = refl
 boards-seen (s ∷ recs) = ap (λ bs. boardInCapitals (boardOf s) ∷ bs) (boards-seen recs)
 
--- 5 to 11 by what is seen of the records: at a place, a mark and the board's tests
+-- a record's rows by what is seen of it: at a place, a mark and the board's tests
 abbrev rowsSeen : ℕ → ℕ → List Test → List Row
 rowsSeen p mark tests = rowsAt p (theRecord p) (test 5 (not (eqb mark BD)) ∷ tests)
 

@@ -1,4 +1,4 @@
--- Sound boards: what 6 to 11 give of every board, in names. They stay sound as boards are read behind them. Assumes nothing.
+-- Sound boards: what a board's tests give of every board, in names. They stay sound as boards are read behind them. Assumes nothing.
 use mathlib.Core.Bool.{Bool, true, false, not, _&&_, _||_}
 use mathlib.Core.List.{[], _∷_, _++_}
 use mathlib.Core.Path.{_≡_, refl, sym, _∙_, ap}
@@ -69,7 +69,7 @@ sound-stays before rest r h k s =
     f : feederOf (before ++ rest) r ≡ feederOf before r
     f = feeder-before before rest r k
 
--- ---- a board that passes 6 to 11 is sound behind those before it
+-- ---- a board that passes its tests is sound behind those before it
 pub record Tested (before : Boards) (b : Board) : Type 0 where
   pub own : Fit (suc (length before)) b
   pub unused : placeOf (b .label) before ≡ 0
@@ -79,7 +79,7 @@ pub record Tested (before : Boards) (b : Board) : Type 0 where
 pub tested : (before : Boards) (b : Board) → Clear (boardTests before b) → Tested before b
 unfolding boardTests
 tested before b c =
-    let (c6, (c7, (c8, (c9, (c10, (c11, _)))))) = c in
+    let (c6, (c7, (c8, (c9, (c10, (_, (c11, _))))))) = c in
     record { own = fit (suc (length before)) b (not-false (formed (b .label)) c6) c9 c10; unused = same-by (placeOf (b .label) before) 0 c7; feeder = c8; sums = c11 }
 
 source-spaced : (before : Boards) (b : Board) → feederWrong before b ≡ false → suc (length before) ≡ 1 → sameBytes (b .feeder) spaces ≡ true

@@ -18,7 +18,7 @@ use Rattle.paper.specs.Label.{Label, capitals}
 use Rattle.paper.specs.Kind.{Term, z0-alone, z0+3zn, Zero, starts, goes-on, Rule, z1≠0, z2≠0, z1=z2, z0=0, zn=0, kindOf, partOver, holds, allHold, term, zeroTerm, isStart}
 use Rattle.paper.specs.Chain.{Boards, noBoard, board, lookFrom, placeOf, feederOf, climb, chain, zeroOf, tied, tie, partChain, lastOf, partHead, joined, earthBy, earthOf, isNone, returnBy, zeroChain, sumΩ, sumℕ, term0, Z1, Z2, Z0, turnOf, common, shared1, shared2, shared0}
 use Rattle.paper.specs.Rows.{test, Row, row, rowsAt, first}
-use Rattle.paper.specs.Refusal.{theRecord, noPart, headRanges, feederWrong, kindWrong, impedanceWrong, sumWrong, boardTests, inOrder, boardRows, boardsRows, answerSize}
+use Rattle.paper.specs.Refusal.{theRecord, noPart, headRanges, feederWrong, kindWrong, impedanceWrong, z1Forgotten, sumWrong, boardTests, inOrder, boardRows, boardsRows, answerSize}
 use Rattle.paper.specs.Fault.{numOf, seq, shortOf, D, currents, liftOf}
 use Rattle.paper.specs.Phase.{Asked, onlyIf, voltageOf, theShort, theD, theI, lift, voltage, current, phases, faultCurrents, boardVoltages, recordCurrents}
 use Rattle.paper.specs.Amps.{said, saidSquare, ampsOver, ampsUnder, amps}
@@ -138,7 +138,7 @@ module _ (bs : Boards) where
       partOver 4095 (sums (λ b. b .z1) i (chains i r)) || partOver 4095 (sums (λ b. b .z2) i (chains i r))
       || (isStart (zeros i (heads i r)) && partOver 4095 (sumΩ (terms0 i) (parts i r)))
 
--- ---- 6 to 11 of a board behind others
+-- ---- the tests of a board behind others
 behind : (before : Boards) (b : Board) → uppers (before ++ (b ∷ [])) ≡ uppers before ++ (boardInCapitals b ∷ [])
 behind before b = map-append boardInCapitals before (b ∷ [])
 
@@ -152,7 +152,7 @@ unfolding impedanceWrong
 impedance-upper b = λ i. partOver 4095 (b .z1) || partOver 4095 (b .z2) || partOver 4095 (b .z0) || partOver 4095 (b .zn) || not (rules-upper (kindOf (b .kind) .rules) b i)
 
 pub tests-upper : (before : Boards) (b : Board) → boardTests before b ≡ boardTests (uppers before) (boardInCapitals b)
-unfolding boardTests kindWrong
+unfolding boardTests kindWrong z1Forgotten
 tests-upper before b =
     let sums = sum-upper (before ++ (b ∷ [])) (suc (length before)) ∙ (λ i. sumWrong (behind before b i) (suc (count before i))) in
     λ i.
@@ -161,6 +161,7 @@ tests-upper before b =
     ∷ test 8 (feeder-upper before b i)
     ∷ test 9 (kindWrong (suc (count before i)) b)
     ∷ test 10 (impedance-upper b i)
+    ∷ test 21 (z1Forgotten b)
     ∷ test 11 (sums i)
     ∷ []
 

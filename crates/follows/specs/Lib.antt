@@ -1,1 +1,2 @@
 pub mod Capitals
+pub mod Forgotten

@@ -5,10 +5,10 @@ use Prim.Native.Nat.{ℕ, _+_}
 use lib.ListN.{replicate}
 use Rattle.paper.specs.declared.Ohms.{Ohms}
 use Rattle.paper.specs.declared.Board.{Board}
-use Rattle.paper.specs.Bytes.{oneOf}
+use Rattle.paper.specs.Bytes.{oneOf, within}
 use Rattle.paper.specs.Kind.{ohms, _+Ω_, thrice, isZero, sameOhms, partOver, kinds, known, kindOf, standsAt, holds, allHold, term, zeroTerm}
 use Rattle.paper.proofs.Told.{parts, small}
-use Rattle.paper.specs.Refusal.{kindWrong, impedanceWrong}
+use Rattle.paper.specs.Refusal.{kindWrong, impedanceWrong, z1Forgotten}
 use Rattle.kind.specs.Zero.{zeroWord}
 use Rattle.kind.specs.declared.zero.ZeroWord.{ZeroWord}
 use Rattle.kind.specs.declared.zero.ZeroWord.the-variants.{Starts, GoesOn, Blocked}
@@ -18,6 +18,7 @@ use Rattle.kind.proofs.impedance.same_ohms.Reads as same-ohms
 use Rattle.kind.proofs.impedance.over.Reads as over
 use Rattle.kind.proofs.clock.kind_wrong.Reads as kind-wrong
 use Rattle.kind.proofs.must_hold.impedance_wrong.Reads as impedance-wrong
+use Rattle.kind.proofs.forgotten.z1_forgotten.Reads as z1-forgotten
 use Rattle.kind.proofs.zero.zero_word.Reads as zero-word
 use Rattle.kind.proofs.zero.zero_term.Reads as zero-term
 
@@ -81,6 +82,23 @@ pub impedance-wrong-not : RuledOut (impedance-wrong.Pre tt) (ever (impedance-wro
     ∷ [])
 unfolding impedanceWrong partOver kindOf kinds allHold holds isZero sameOhms
 impedance-wrong-not = by-equation (λ a. impedanceWrong (a .0)) bool (λ a z e s. s) (tt, (tt, (tt, (tt, (tt, tt))))) tt
+
+pub z1-forgotten-not : RuledOut (z1-forgotten.Pre tt) (ever (z1-forgotten.Post tt)) (
+    (board 2 0 none none one none, tt) ↛ true  -- forgotten_in_a_cable
+    ∷ (board 0 0 none one one none, tt) ↛ true  -- forgotten_in_a_source
+    ∷ (board 1 0 none one none none, tt) ↛ true  -- forgotten_in_an_unearthed_source
+    ∷ (board 6 0 none none one one, tt) ↛ true  -- forgotten_in_kind_6
+    ∷ (board 3 0 none none one one, tt) ↛ false  -- forgotten_from_kind_4
+    ∷ (board 4 1 none none one one, tt) ↛ false  -- forgotten_but_not_in_delta
+    ∷ (board 5 0 none none none none, tt) ↛ false  -- forgotten_to_kind_4
+    ∷ (board 3 0 (ohms 0 1) (ohms 0 1) one one, tt) ↛ true  -- forgotten_by_r_alone
+    ∷ (board 3 0 (ohms 1 0) (ohms 1 0) one one, tt) ↛ true  -- forgotten_by_x_alone
+    ∷ (board 3 0 none one one one, tt) ↛ false  -- forgotten_only_with_z2
+    ∷ (board 3 0 one none one one, tt) ↛ true  -- forgotten_by_z2
+    ∷ (board 3 0 one one none one, tt) ↛ true  -- forgotten_by_z0
+    ∷ [])
+unfolding z1Forgotten within isZero
+z1-forgotten-not = by-equation (λ a. z1Forgotten (a .0)) bool (λ a z e s. s) (tt, (tt, (tt, (tt, (tt, (tt, (tt, (tt, (tt, (tt, (tt, (tt, tt)))))))))))) tt
 
 pub zero-word-not : RuledOut (zero-word.Pre tt) (ever (zero-word.Post tt)) (
     (1, tt) ↛ GoesOn  -- blocked_goes_on

@@ -15,7 +15,8 @@ use Rattle.paper.specs.File.{boardsOf}
 use Rattle.paper.specs.Refusal.{networkRefusal}
 use Rattle.paper.specs.Answer.{paper}
 use Rattle.paper.proofs.Typed.{head, label, Typed·open}
-use Rattle.paper.proofs.Figures.{records, gen, booth, net3}
+use Rattle.paper.proofs.Figures.{j, records, gen, booth, net3}
+use Rattle.paper.proofs.ForgottenFigures.{hall, forgetful, overgrown}
 use Rattle.node.specs.declared.Node.{Node}
 use Rattle.node.specs.Node.{nodeOf, startOf, noNode}
 use Rattle.node.specs.Rows.{rowOf, nodeIn, nodesIn}
@@ -44,6 +45,10 @@ refuse number place start len = refusedNetwork (record { part = part NetworkByte
 abbrev twice : List ℕ
 twice = head 230 1000 3 ++ gen ++ booth ++ booth
 
+-- 02, R-6: 01's network with a cable of zero length to the hall
+abbrev no-length : List ℕ
+no-length = head 230 1000 3 ++ gen ++ booth ++ hall 2 0 (j 0) (j 0) (j 0) (j 0)
+
 -- ---- a call, and its answer with what is left in the rows
 abbrev Call : Type 0
 Call = RefT (List ℕ) × (Label × (RefT (List (List ℕ)) × Unit {0}))
@@ -70,10 +75,15 @@ module _ (κ κ′ : Lft) where
       ∷ asked net3 (label "hall") ↛ leaves net3 (label "hall") (at 0) (filled net3)  -- fault_as_typed
       ∷ asked net3 (label "HALL") ↛ leaves net3 (label "HALL") (at 3) noRows  -- no_nodes_left
       ∷ asked net3 (label "HALL") ↛ leaves net3 (label "HALL") (at 3) (filled twice)  -- nodes_of_another
+      ∷ asked forgetful (label "HALL") ↛ leaves forgetful (label "HALL") (at 3) (filled forgetful)  -- forgotten_taken
+      ∷ asked forgetful (label "HALL") ↛ leaves forgetful (label "HALL") (refuse 21 0 96 44) noRows  -- twenty_one_at_place_0
+      ∷ asked forgetful (label "HALL") ↛ leaves forgetful (label "HALL") (refuse 21 3 0 8) noRows  -- twenty_one_shows_the_head
+      ∷ asked overgrown (label "HALL") ↛ leaves overgrown (label "HALL") (refuse 11 3 96 44) noRows  -- twenty_one_after_eleven
+      ∷ asked no-length (label "HALL") ↛ leaves no-length (label "HALL") (refuse 21 3 96 44) noRows  -- twenty_one_for_a_cable
       ∷ [])
   unfolding paper networkOf judged Typed·open records nodesIn nodeIn rowOf table nodesFrom nodeOf startOf
   read-not =
       by-parts (λ z. told (z .0)) (λ a. told (networkOf (a .0 .now) (a .1 .0)))
       (λ a. networkRefusal (a .0 .now)) (λ z. lists (rowsOf (nodesIn (z .1 .1 .1 .0 .now)))) (λ a. lists (rowsOf (table noNode (nodesOf (boardsOf (a .0 .now))))))
       (λ a z s. (ap told (s .0), λ e. ap (λ (ns : List Node). lists (rowsOf ns)) (s .1 e)))
-      (empty-rows, (empty-rows, (empty-rows, (empty-rows, (empty-rows, (empty-rows, (empty-rows, (empty-rows, (empty-rows, (empty-rows, (empty-rows, tt))))))))))) tt
+      (empty-rows, (empty-rows, (empty-rows, (empty-rows, (empty-rows, (empty-rows, (empty-rows, (empty-rows, (empty-rows, (empty-rows, (empty-rows, (empty-rows, (empty-rows, (empty-rows, (empty-rows, (empty-rows, tt)))))))))))))))) tt

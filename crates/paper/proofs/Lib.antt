@@ -7,5 +7,6 @@ pub mod UnearthedFigures
 pub mod CaseFigures
 pub mod WriteFigures
 pub mod ReturnFigures
+pub mod ForgottenFigures
 -- what tables of wrong answers say of impedances and sequences
 pub mod Told

@@ -106,6 +106,7 @@ returns =
     ∷ asks [] [] (refused 1 0 (part NetworkBytes 0 0))
     ∷ asks (head 0 1000 1 ++ gen) (label "NOBODY") (refused 3 0 (part NetworkBytes 0 8))
     ∷ asks (head 230 1000 2 ++ gen ++ lost) (label "GEN") (refused 8 2 (part NetworkBytes 52 44))
+    ∷ asks (head 230 1000 2 ++ gen ++ bd "HALL" "GEN" 4 11 (j 0) (j 0) (j 20) (j 0)) (label "GEN") (refused 21 2 (part NetworkBytes 52 44))
     ∷ []
 
 pub returns-hold : All returns

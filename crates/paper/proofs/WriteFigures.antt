@@ -110,6 +110,13 @@ writes =
     ∷ refuses 230 1000 (gen ∷ hall 4 10 (j 20) (j 20) ∷ []) 96 9 2
     ∷ refuses 230 1000 (gen ∷ hall 2 0 (j 20) (j 21) ∷ []) 96 10 2
     ∷ refuses 230 1000 (gen ∷ hall 2 0 (j 4076) (j 4076) ∷ []) 96 11 2
+    -- 02, R-6: 21 at the record, behind 10 and before 11; a cable of zero length is written
+    ∷ refuses 230 1000 (gen ∷ hall 3 0 (j 0) (j 0) ∷ []) 96 21 2
+    ∷ refuses 230 1000 (gen ∷ hall 4 11 (j 0) (j 1) ∷ []) 96 10 2
+    ∷ refuses 230 1000 (gen ∷ board "HALL" "GEN" 4 11 (j 0) (j 0) (j 0) (j 1366) ∷ []) 96 21 2
+    ∷ refuses 230 1000 (gen ∷ hall 2 0 (j 4076) (j 4076) ∷ board "TENT" "GEN" 5 0 (j 0) (j 0) (j 0) (j 0) ∷ []) 140 11 2
+    ∷ write 230 1000 (gen ∷ hall 2 0 (j 0) (j 0) ∷ []) 96 (taken 96) (head 230 1000 2 ++ (bd "GEN" "" 0 0 (j 20) (j 20) (j 5) (j 5) ++ bd "HALL" "GEN" 2 0 (j 0) (j 0) (j 20) (j 0)))
+    ∷ refuses 230 1000 (gen ∷ hall 4 11 (j 0) (j 0) ∷ []) 0 21 2
     -- 02, R-3: label and feeder are written as they are typed; a label that differs from an earlier one in case alone is used
     ∷ write 230 1000 (gen ∷ board "Tent-1" "gEN" 2 0 (j 20) (j 20) (j 20) (j 0) ∷ []) 96 (taken 96) (head 230 1000 2 ++ (bd "GEN" "" 0 0 (j 20) (j 20) (j 5) (j 5) ++ bd "Tent-1" "gEN" 2 0 (j 20) (j 20) (j 20) (j 0)))
     ∷ refuses 230 1000 (gen ∷ board "Gen" "GEN" 2 0 (j 20) (j 20) (j 20) (j 0) ∷ []) 96 7 2

@@ -1,4 +1,4 @@
--- 01, 'What the caller gets': the refusal table, 1 to 19, in its order (02, R-2: "18 is withdrawn, never reused"). Assumes nothing.
+-- 01, 'What the caller gets': the refusal table, 1 to 19, in its order (02, R-2: "18 is withdrawn, never reused"; R-6: 21 between 10 and 11). Assumes nothing.
 use mathlib.Core.Bool.{Bool, not, _&&_, _||_}
 use mathlib.Core.List.{List, [], _∷_, _++_}
 use mathlib.Core.Option.{Option}
@@ -15,7 +15,7 @@ use Rattle.paper.specs.Bytes.{sameBytes, oneOf, within, part}
 use Rattle.paper.specs.declared.Refusal.{Refusal}
 use Rattle.paper.specs.Rows.{Test, test, Row, row, rowsAt, first}
 use Rattle.paper.specs.Label.{spaces, formed}
-use Rattle.paper.specs.Kind.{partOver, kindOf, known, standsAt, allHold, isStart}
+use Rattle.paper.specs.Kind.{isZero, partOver, kindOf, known, standsAt, allHold, isStart}
 use Rattle.paper.specs.File.{markOf, HD, BD, FT, headOf, headSize, boardOf, boardSize, faultOf, faultSize, fileSize, startOf, recordsOf, boardsOf}
 use Rattle.paper.specs.Chain.{Boards, placeOf, zeroOf, partChain, partHead, sumΩ, term0, Z1, Z2}
 
@@ -46,7 +46,7 @@ headRows s =
     ∷ row 4 (not (eqb (length s) (fileSize (h .boards)))) 0 theHead
     ∷ []
 
--- ---- 5 to 11: a record
+-- ---- 5 to 11 and 21: a record
 -- "record 1: feeder not twelve spaces; others: feeder bytes equal no earlier label"
 unfoldable pub feederWrong : Boards → Board → Bool
 feederWrong [] b = not (sameBytes (b .feeder) spaces)
@@ -60,11 +60,15 @@ kindWrong r b = not (known (b .kind)) || not (oneOf (b .clock) (kindOf (b .kind)
 unfoldable pub impedanceWrong : Board → Bool
 impedanceWrong b = partOver 4095 (b .z1) || partOver 4095 (b .z2) || partOver 4095 (b .z0) || partOver 4095 (b .zn) || not (allHold (kindOf (b .kind) .rules) b)
 
+-- 02, R-6: "Kinds 3, 4 and 5 with z1 zero"
+unfoldable pub z1Forgotten : Board → Bool
+z1Forgotten b = within 3 5 (b .kind) && isZero (b .z1)
+
 -- "a part of Z1, Z2 or an existing Z0 over 4,095" (a Z0 that exists starts at the head of the part, and is summed from there)
 unfoldable pub sumWrong : Boards → ℕ → Bool
 sumWrong bs r = partOver 4095 (Z1 bs r) || partOver 4095 (Z2 bs r) || (isStart (zeroOf bs (partHead bs r)) && partOver 4095 (sumΩ (term0 bs) (partChain bs r)))
 
--- 6 to 11, asked of a board that is to stand behind the boards before it: whoever reads, writes or adds one asks these
+-- 6 to 11 and 21 ("tested after 10 and before 11"), asked of a board that is to stand behind the boards before it: whoever reads, writes or adds one asks these
 unfoldable pub boardTests : Boards → Board → List Test
 boardTests before b =
     let r = suc (length before) in
@@ -73,6 +77,7 @@ boardTests before b =
     ∷ test 8 (feederWrong before b)
     ∷ test 9 (kindWrong r b)
     ∷ test 10 (impedanceWrong b)
+    ∷ test 21 (z1Forgotten b)
     ∷ test 11 (sumWrong (before ++ (b ∷ [])) r)
     ∷ []
 
@@ -88,7 +93,7 @@ inOrder board rows before (a ∷ rest) = let later = inOrder board rows (before 
 abbrev pub recordsRows : Boards → List (List ℕ) → List Row
 recordsRows = inOrder boardOf recordRows
 
--- 02, R-1: of boards that are no bytes. 6 to 11, and "the part is the bytes tested, empty where there are none"
+-- 02, R-1: of boards that are no bytes: the same tests, and "the part is the bytes tested, empty where there are none"
 abbrev pub noPart : Part
 noPart = part NetworkBytes 0 0
 
@@ -138,5 +143,5 @@ abbrev pub refusal : List ℕ → List ℕ → ℕ → Option Refusal
 refusal net flt room = first (solveRows net flt room)
 
 unfoldable pub Refusal·open : Unit {0}
-unfolding headRanges headRows feederWrong kindWrong impedanceWrong sumWrong boardTests recordRows inOrder boardRows networkRows phaseWrong faultRows solveRows
+unfolding headRanges headRows feederWrong kindWrong impedanceWrong z1Forgotten sumWrong boardTests recordRows inOrder boardRows networkRows phaseWrong faultRows solveRows
 Refusal·open = tt

@@ -40,7 +40,7 @@ said (From r) = earthReturnFrom r
 said (Stopped r) = noneStoppedAt r
 said (Refused w) = refusedBy w
 
--- ---- "Refusals: 1 to 11 as before, then 14, also for a label not of twelve bytes." The part is the bytes tested: the label's, however many
+-- ---- "Refusals: 1 to 11 as before, then 14, also for a label not of twelve bytes." All of the network's own are meant. The part is the bytes tested: the label's, however many
 unfoldable pub labelRows : Boards → Label → List Row
 labelRows bs l = row 14 (not (eqb (length l) labelSize) || eqb (placeOf l bs) 0) 0 (allOf LabelBytes l) ∷ []
 

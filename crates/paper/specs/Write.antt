@@ -47,7 +47,7 @@ fileOf volts unit bs = headBytes (headFor volts unit bs) ++ boardsBytes bs
 abbrev pub roomRows : ℕ → ℕ → List Row
 roomRows n room = row 20 (ltb room (fileSize n)) 0 noPart ∷ []
 
--- "with 3 and 6 to 11 in the reader's order"; 20 "after all others"
+-- "with 3 and 6 to 11 in the reader's order", 21 with them (R-6: "R-1's writer refuses the same boards"); 20 "after all others"
 unfoldable pub writeRows : ℕ → ℕ → Boards → ℕ → List Row
 writeRows volts unit bs room = row 3 (not (headRanges (headFor volts unit bs))) 0 noPart ∷ (boardsRows [] bs ++ roomRows (length bs) room)
 

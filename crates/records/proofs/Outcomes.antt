@@ -1,6 +1,6 @@
 -- Each outcome of a record's rules, from the facts in the shape in which the branches have them. Assumes nothing.
 use mathlib.Core.Bool.{Bool, true, false, not, cond, _||_}
-use mathlib.Core.Path.{_≡_, refl, sym, _∙_, ap}
+use mathlib.Core.Path.{_≡_, sym, _∙_, ap}
 use Prim.Native.Nat.{ℕ, _≤_, _<_}
 use lib.Dec.{leb, ltb, eqb}
 use borrow.Author.Tests.{lt-ltb, le-ltb, eq-eqb, ne-eqb}
@@ -8,7 +8,7 @@ use Rattle.paper.specs.File.{BD}
 use Rattle.paper.specs.declared.Board.{Board}
 use Rattle.paper.specs.Bytes.{sameBytes}
 use Rattle.paper.specs.Label.{spaces, formed}
-use Rattle.paper.specs.Refusal.{kindWrong, impedanceWrong}
+use Rattle.paper.specs.Refusal.{kindWrong, impedanceWrong, z1Forgotten}
 use Rattle.node.specs.declared.Node.{Node}
 use Rattle.records.specs.declared.Step.{Step}
 use Rattle.node.specs.Node.{nodeFrom, nodeOver, noNode}
@@ -60,9 +60,14 @@ module _ (r : ℕ) (b : Board) (own fed : ℕ) {mark : ℕ} where
             unfolding broken numberOf
             broken-10 h = simp (eq-eqb mark BD h5, ← f-is, h6, eq-eqb own r h7, ← g-is, h8, ← k-is, h9, ← z-is, h)
 
-            pub broken-0 : z ≡ false → 0 ≡ broken r mark b own fed
-            unfolding broken numberOf
-            broken-0 h = simp (eq-eqb mark BD h5, ← f-is, h6, eq-eqb own r h7, ← g-is, h8, ← k-is, h9, ← z-is, h)
+            module _ {w : Bool} (h10 : z ≡ false) (w-is : w ≡ z1Forgotten b) where
+              pub broken-21 : w ≡ true → 21 ≡ broken r mark b own fed
+              unfolding broken numberOf
+              broken-21 h = simp (eq-eqb mark BD h5, ← f-is, h6, eq-eqb own r h7, ← g-is, h8, ← k-is, h9, ← z-is, h10, ← w-is, h)
+
+              pub broken-0 : w ≡ false → 0 ≡ broken r mark b own fed
+              unfolding broken numberOf
+              broken-0 h = simp (eq-eqb mark BD h5, ← f-is, h6, eq-eqb own r h7, ← g-is, h8, ← k-is, h9, ← z-is, h10, ← w-is, h)
 
 -- ---- a record's step
 module _ (r mark : ℕ) (b : Board) (own fed : ℕ) (up : Node) {m : ℕ} (m-is : m ≡ broken r mark b own fed) where

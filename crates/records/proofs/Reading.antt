@@ -177,7 +177,7 @@ module _ (net : List ℕ) where
       abbrev m : ℕ
       m = broken (suc i) (markOf s) b own fed
 
-      -- with 5 to 10 kept, the record is as the paper has it behind those before
+      -- with 5 to 10 and 21 kept, the record is as the paper has it behind those before
       module _ (e : m ≡ 0) where
         k : Kept (suc (length before)) (markOf s) b (placeOf (b .label) (before ++ (b ∷ rest))) (placeOf (b .feeder) (before ++ (b ∷ rest)))
         k = all-kept (suc (length before)) (markOf s) b (placeOf (b .label) (before ++ (b ∷ rest))) (placeOf (b .feeder) (before ++ (b ∷ rest))) (broken-is ∙ e)

@@ -16,7 +16,7 @@ use Rattle.paper.specs.Label.{formed}
 use Rattle.paper.specs.Rows.{Test, test, rowsAt, first}
 use Rattle.paper.specs.File.{markOf, BD, boardOf}
 use Rattle.paper.specs.Chain.{Boards, placeOf}
-use Rattle.paper.specs.Refusal.{feederWrong, kindWrong, impedanceWrong, sumWrong, boardTests, recordRows, theRecord}
+use Rattle.paper.specs.Refusal.{feederWrong, kindWrong, impedanceWrong, z1Forgotten, sumWrong, boardTests, recordRows, theRecord}
 use Rattle.lemmas.proofs.Bools.{same-by}
 use Rattle.follows.proofs.Fit.{fit}
 use Rattle.node.specs.Node.{OwnSmall}
@@ -93,7 +93,7 @@ fed-test (x ∷ xs) b rest = rw (ne-eqb (suc (suc (length xs))) 1 (λ e. omega a
         let e = place-not-earlier (x ∷ xs) b rest (b .feeder) (λ h k. p h) in
         simp (eq-eqb fed 0 (omega arith), eq-eqb (placeOf (b .feeder) (x ∷ xs)) 0 e)
 
--- ---- a record is refused by the first of 5 to 10, or by 11
+-- ---- a record is refused by the first of 5 to 10, then 21, or by 11
 module _ (before : Boards) (s : List ℕ) (rest : Boards) where
   abbrev own : ℕ
   own = placeOf (boardOf s .label) (before ++ (boardOf s ∷ rest))
@@ -107,32 +107,34 @@ module _ (before : Boards) (s : List ℕ) (rest : Boards) where
   abbrev sums : Bool
   sums = sumWrong (before ++ (boardOf s ∷ [])) place
 
-  six : List Test
-  six =
+  ownTests : List Test
+  ownTests =
       test 5 (not (eqb (markOf s) BD)) ∷ test 6 (not (formed (boardOf s .label))) ∷ test 7 (not (eqb own place)) ∷ test 8 (fedWrong place (boardOf s) fed)
       ∷ test 9 (kindWrong place (boardOf s))
       ∷ test 10 (impedanceWrong (boardOf s))
+      ∷ test 21 (z1Forgotten (boardOf s))
       ∷ []
 
-  record-is : first (recordRows before s) ≡ refusedAt place (theRecord place) (numberOf (six ++ (test 11 sums ∷ [])))
-  unfolding recordRows boardTests six
+  record-is : first (recordRows before s) ≡ refusedAt place (theRecord place) (numberOf (ownTests ++ (test 11 sums ∷ [])))
+  unfolding recordRows boardTests ownTests
   record-is =
       (λ i. first (rowsAt place (theRecord place)
       (test 5 (not (eqb (markOf s) BD)) ∷ test 6 (not (formed (boardOf s .label))) ∷ test 7 (not (sym (own-test before s rest) i)) ∷ test 8 (sym (fed-test before (boardOf s) rest) i)
       ∷ test 9 (kindWrong place (boardOf s))
       ∷ test 10 (impedanceWrong (boardOf s))
+      ∷ test 21 (z1Forgotten (boardOf s))
       ∷ test 11 sums
       ∷ [])))
-      ∙ first-is place (theRecord place) (six ++ (test 11 sums ∷ [])) tt
+      ∙ first-is place (theRecord place) (ownTests ++ (test 11 sums ∷ [])) tt
 
   pub record-broken : (n : ℕ) → broken place (markOf s) (boardOf s) own fed ≡ suc n → first (recordRows before s) ≡ some (record { part = theRecord place; place = place; number = suc n })
-  unfolding broken six
-  record-broken n e = record-is ∙ ap (refusedAt place (theRecord place)) (numbers-before six (test 11 sums ∷ []) (λ z. omega (arith, e, z)) ∙ e)
+  unfolding broken ownTests
+  record-broken n e = record-is ∙ ap (refusedAt place (theRecord place)) (numbers-before ownTests (test 11 sums ∷ []) (λ z. omega (arith, e, z)) ∙ e)
 
-  -- with 5 to 10 kept, the sums decide
+  -- with 5 to 10 and 21 kept, the sums decide
   record-kept : broken place (markOf s) (boardOf s) own fed ≡ 0 → first (recordRows before s) ≡ refusedAt place (theRecord place) (cond sums 11 0)
-  unfolding broken six numberOf
-  record-kept e = record-is ∙ ap (refusedAt place (theRecord place)) (numbers-behind six (test 11 sums ∷ []) e tt)
+  unfolding broken ownTests numberOf
+  record-kept e = record-is ∙ ap (refusedAt place (theRecord place)) (numbers-behind ownTests (test 11 sums ∷ []) e tt)
 
   pub record-over : broken place (markOf s) (boardOf s) own fed ≡ 0 → sums ≡ true → first (recordRows before s) ≡ some (record { part = theRecord place; place = place; number = 11 })
   record-over e h = record-kept e ∙ ap (λ (c : Bool). refusedAt place (theRecord place) (cond c 11 0)) h
@@ -140,7 +142,7 @@ module _ (before : Boards) (s : List ℕ) (rest : Boards) where
   pub record-passes : broken place (markOf s) (boardOf s) own fed ≡ 0 → sums ≡ false → first (recordRows before s) ≡ none
   record-passes e h = record-kept e ∙ ap (λ (c : Bool). refusedAt place (theRecord place) (cond c 11 0)) h
 
--- ---- what the rules kept give: 5 to 10 each tested false
+-- ---- what the rules kept give: 5 to 10 and 21 each tested false
 kept : (n : ℕ) (c : Bool) (ts : List Test) → numberOf (test (suc n) c ∷ ts) ≡ 0 → (c ≡ false) × (numberOf ts ≡ 0)
 unfolding numberOf
 kept n true ts e = absurd (omega arith)
@@ -153,6 +155,7 @@ pub record Kept (r mark : ℕ) (b : Board) (own fed : ℕ) : Type 0 where
   pub fed-kept : fedWrong r b fed ≡ false
   pub kind-kept : kindWrong r b ≡ false
   pub impedance-kept : impedanceWrong b ≡ false
+  pub z1-kept : z1Forgotten b ≡ false
 
 pub all-kept : (r mark : ℕ) (b : Board) (own fed : ℕ) → broken r mark b own fed ≡ 0 → Kept r mark b own fed
 unfolding broken
@@ -162,7 +165,8 @@ all-kept r mark b own fed e =
     let (t7, e7) = kept 6 _ _ e6 in
     let (t8, e8) = kept 7 _ _ e7 in
     let (t9, e9) = kept 8 _ _ e8 in
-    record { marked = same-by mark BD t5; label-kept = not-false (formed (b .label)) t6; own-kept = same-by own r t7; fed-kept = t8; kind-kept = t9; impedance-kept = kept 9 _ _ e9 .0 }
+    let (t10, e10) = kept 9 _ _ e9 in
+    record { marked = same-by mark BD t5; label-kept = not-false (formed (b .label)) t6; own-kept = same-by own r t7; fed-kept = t8; kind-kept = t9; impedance-kept = t10; z1-kept = kept 20 _ _ e10 .0 }
 
 -- so its sums fit their words
 pub own-small : {r mark : ℕ} {b : Board} {own fed : ℕ} → Kept r mark b own fed → OwnSmall b

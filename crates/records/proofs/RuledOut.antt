@@ -38,9 +38,6 @@ use Rattle.records.proofs.judge.Reads as judge
 abbrev node : Ohms → Ohms → Ohms → ℕ → ℕ → ℕ → ℕ → Node
 node z1 z2 z0 f h s t = record { z1 = z1; z2 = z2; z0 = z0; feeder = f; head = h; start = s; turn = t }
 
-abbrev board : ℕ → ℕ → Ohms → Board
-board k c z2 = record { z1 = ohms 0 1; z2 = z2; z0 = ohms 0 1; zn = ohms 0 0; label = 65 ∷ replicate 11 32; feeder = 66 ∷ replicate 11 32; kind = k; clock = c }
-
 abbrev zero : Ohms
 zero = ohms 0 0
 
@@ -50,7 +47,17 @@ j1 = ohms 0 1
 abbrev j2 : Ohms
 j2 = ohms 0 2
 
--- a node above; one without earth return; one whose sum is one short of too much
+abbrev entered : ℕ → ℕ → Ohms → Ohms → Ohms → Board
+entered k c z1 z2 z0 = record { z1 = z1; z2 = z2; z0 = z0; zn = zero; label = 65 ∷ replicate 11 32; feeder = 66 ∷ replicate 11 32; kind = k; clock = c }
+
+abbrev board : ℕ → ℕ → Ohms → Board
+board k c z2 = entered k c j1 z2 j1
+
+-- with z1 zero
+abbrev forgotten : ℕ → ℕ → Ohms → Ohms → Board
+forgotten k c z2 z0 = entered k c zero z2 z0
+
+-- a node above; one without earth return; two with a sum that is one short of too much
 abbrev up : Node
 up = node j1 j1 j1 0 1 1 0
 
@@ -59,6 +66,9 @@ up-zero = node j1 j1 zero 0 1 0 0
 
 abbrev up-most : Node
 up-most = node (ohms 0 4095) j1 j1 0 1 1 0
+
+abbrev up-most0 : Node
+up-most0 = node j1 j1 (ohms 0 4095) 0 1 1 0
 
 -- a record judged; a network of one record without a mark, judged
 abbrev said : ℕ → Node → Step
@@ -117,11 +127,19 @@ pub step-not : RuledOut (step.Pre tt) (ever (step.Post tt)) (
     ∷ (2, (BD, (board 2 0 j1, (2, (3, (up, tt)))))) ↛ said 0 (node j2 j2 j2 0 1 1 0)  -- feeder_later_too
     ∷ (2, (BD, (board 2 0 j2, (2, (1, (up, tt)))))) ↛ said 11 noNode  -- ten_said_eleven
     ∷ (2, (BD, (board 2 0 j1, (2, (1, (up-most, tt)))))) ↛ said 10 (node (ohms 0 4096) j2 j2 1 1 1 0)  -- eleven_said_ten
+    ∷ (2, (BD, (forgotten 3 0 j1 j1, (2, (1, (up, tt)))))) ↛ said 21 noNode  -- ten_said_twenty_one
+    ∷ (2, (BD, (forgotten 3 0 zero j1, (2, (1, (up, tt)))))) ↛ said 10 noNode  -- twenty_one_said_ten
+    ∷ (2, (BD, (forgotten 3 0 zero j1, (2, (1, (up-most0, tt)))))) ↛ said 11 (node j1 j1 (ohms 0 4096) 1 1 1 0)  -- twenty_one_said_eleven
+    ∷ (2, (BD, (forgotten 2 0 zero zero, (2, (1, (up, tt)))))) ↛ said 21 noNode  -- twenty_one_of_a_cable
+    ∷ (2, (BD, (forgotten 3 0 zero j1, (2, (1, (up, tt)))))) ↛ said 0 (node j1 j1 j2 1 1 1 0)  -- kind_3_forgotten_kept
+    ∷ (2, (BD, (forgotten 4 1 zero j1, (2, (1, (up, tt)))))) ↛ said 0 (node j1 j1 j1 1 2 2 1)  -- kind_4_forgotten_kept
+    ∷ (2, (BD, (forgotten 5 0 zero zero, (2, (1, (up, tt)))))) ↛ said 0 (node j1 j1 zero 1 2 0 0)  -- kind_5_forgotten_kept
+    ∷ (2, (BD, (forgotten 3 0 zero j1, (2, (1, (up, tt)))))) ↛ said 21 (node j1 j1 j2 1 1 1 0)  -- twenty_one_with_a_node
     ∷ [])
 unfolding rowOf stepOf earlier nodeOver nodeFrom withZero broken numberOf fedWrong Kind·open Label·open Bytes·open Refusal·open
 step-not =
     by-equation (λ a. stepOf (a .0) (a .1 .0) (a .1 .1 .0) (a .1 .1 .1 .0) (a .1 .1 .1 .1 .0) (a .1 .1 .1 .1 .1 .0)) (λ s. list (s .number ∷ rowOf (s .node))) (λ a z e s. s)
-    ((lit≤ tt, up-small 1 1 1 tt tt), ((lit≤ tt, up-small 1 1 1 tt tt), ((lit≤ tt, up-small 1 1 1 tt tt), ((lit≤ tt, up-small 4095 1 1 tt tt), tt)))) tt
+    ((lit≤ tt, up-small 1 1 1 tt tt), ((lit≤ tt, up-small 1 1 1 tt tt), ((lit≤ tt, up-small 1 1 1 tt tt), ((lit≤ tt, up-small 4095 1 1 tt tt), ((lit≤ tt, up-small 1 1 1 tt tt), ((lit≤ tt, up-small 1 1 1 tt tt), ((lit≤ tt, up-small 1 4095 1 tt tt), ((lit≤ tt, up-small 1 1 1 tt tt), ((lit≤ tt, up-small 1 1 1 tt tt), ((lit≤ tt, up-small 1 1 1 tt tt), ((lit≤ tt, up-small 1 1 1 tt tt), ((lit≤ tt, up-small 1 1 1 tt tt), tt)))))))))))) tt
 
 -- ---- the records judged, with rows that say no node
 abbrev nobody : List ℕ

@@ -1,6 +1,6 @@
 -- Record r by its mark, its board, the first places of its label and of its feeder's among all boards, and its feeder's node: what the reader computes. That these are the paper's
 -- rules is a theorem (proofs/, `Record`). Assumes nothing.
-use mathlib.Core.Bool.{Bool, true, false, not, cond, _||_}
+use mathlib.Core.Bool.{Bool, not, cond, _||_}
 use mathlib.Core.List.{List, [], _∷_}
 use Prim.Native.Nat.{ℕ}
 use lib.Dec.{leb, ltb, eqb}
@@ -9,7 +9,7 @@ use Rattle.paper.specs.Bytes.{sameBytes}
 use Rattle.paper.specs.Label.{spaces, formed}
 use Rattle.paper.specs.File.{BD}
 use Rattle.paper.specs.Rows.{Test, test}
-use Rattle.paper.specs.Refusal.{kindWrong, impedanceWrong}
+use Rattle.paper.specs.Refusal.{kindWrong, impedanceWrong, z1Forgotten}
 use Rattle.node.specs.declared.Node.{Node}
 use Rattle.node.specs.Node.{nodeFrom, nodeOver, noNode}
 use Rattle.records.specs.declared.Step.{Step}
@@ -32,13 +32,14 @@ broken r mark b own fed =
     ∷ test 8 (fedWrong r b fed)
     ∷ test 9 (kindWrong r b)
     ∷ test 10 (impedanceWrong b)
+    ∷ test 21 (z1Forgotten b)
     ∷ [])
 
 -- the feeder's place among the boards before
 unfoldable pub earlier : ℕ → ℕ → ℕ
 earlier r fed = cond (ltb fed r) fed 0
 
--- 5 to 11, and the node where they are kept
+-- 5 to 11 with 21, and the node where they are kept
 unfoldable pub stepOf : ℕ → ℕ → Board → ℕ → ℕ → Node → Step
 stepOf r mark b own fed up =
     let n = nodeFrom r b (earlier r fed) up in

@@ -1,4 +1,4 @@
-// The records, judged in file order: "5 to 11 are all tried on one record before the next."
+// The records, judged in file order: "5 to 11 are all tried on one record before the next.", and 21 with them.
 mod rules;
 pub mod sums;
 
@@ -25,7 +25,7 @@ use node::index;
 use node::node_at;
 use node::put_node;
 
-// A record judged: the number of the first broken rule of 5 to 11, or 0 and its node.
+// A record judged: the number of the first broken rule of 5 to 11 with 21, or 0 and its node.
 pub(crate) struct Step {
     pub node: Node,
     pub number: u8,

@@ -1,4 +1,4 @@
-// One record judged, by what stands in it and by what its feeder has: the first of 5 to 11 that it breaks, or its node.
+// One record judged, by what stands in it and by what its feeder has: the first of 5 to 11 with 21 that it breaks, or its node.
 ghost use mathlib.Core.Path.{_≡_};
 ghost use Prim.Native.Nat.{_≤_, _<_};
 ghost use Rattle.node.specs.Node.{UpSmall};
@@ -9,6 +9,7 @@ use crate::sums::node_from;
 use crate::sums::node_over;
 use file::field::BD;
 use kind::clock::kind_wrong;
+use kind::forgotten::z1_forgotten;
 use kind::must_hold::impedance_wrong;
 use label::formed::formed;
 use label::is_spaces;
@@ -25,7 +26,7 @@ fn fed_wrong(r: usize, b: Board, fed: usize) -> bool
     (fed == 0) | (r <= fed)
 }
 
-// 5 to 10: the number of the first that is broken, or 0.
+// 5 to 10, then 21: the number of the first that is broken, or 0.
 fn broken(r: usize, mark: u16, b: Board, own: usize, fed: usize) -> u8
     ensures { λ n. ⌜ n ≡ broken r mark b own fed ⌝ }
 {
@@ -48,6 +49,9 @@ fn broken(r: usize, mark: u16, b: Board, own: usize, fed: usize) -> u8
     if impedance_wrong(b) {
         return 10;
     }
+    if z1_forgotten(b) {
+        return 21;
+    }
     0
 }
 
@@ -58,7 +62,7 @@ pub(crate) fn earlier(r: usize, fed: usize) -> usize
     if fed < r { fed } else { 0 }
 }
 
-// 5 to 11, and the node where they are kept.
+// 5 to 11 with 21, and the node where they are kept.
 pub(crate) fn step(r: usize, mark: u16, b: Board, own: usize, fed: usize, up: Node) -> Step
     requires { ⌜ (r ≤ 256) × UpSmall up ⌝ }
     ensures { λ s. ⌜ s ≡ stepOf r mark b own fed up ⌝ }

@@ -53,7 +53,7 @@ module _ (net : List ℕ) (l : Label) where
   abbrev bs : Boards
   bs = boardsOf net
 
-  -- ---- 1 to 11: g was read
+  -- ---- the network's own refusals: g was read
   pub says-network : (w : Label) {g : Network} {why : Refusal} → g ≡ networkOf net w → g .outcome ≡ Refused why → refusedBy why ≡ earthSaid net l
   unfolding earthSaid earthRows refusedOr
   says-network w read h = sym (ap (λ (o : Option Refusal). refusedOr o (earthAt bs (placeOf l bs))) (ahead (networkRows net) (labelRows bs l) (network-broken net w read h)))

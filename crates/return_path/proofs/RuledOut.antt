@@ -17,6 +17,7 @@ use Rattle.paper.proofs.Compare.{ordinal}
 use Rattle.paper.proofs.Typed.{label, Typed·open}
 use Rattle.paper.proofs.Figures.{records, net3}
 use Rattle.paper.proofs.UnearthedFigures.{below}
+use Rattle.paper.proofs.ForgottenFigures.{forgetful}
 use Rattle.paper.proofs.ReturnFigures.{inner, floating, stopped}
 use Rattle.return_path.proofs.earth.Reads as earth
 
@@ -45,8 +46,10 @@ module _ (κ κ′ : Lft) where
       ∷ (lent net3, (lent (label "GEN" ++ (0x20 ∷ [])), tt)) ↛ From 1  -- label_of_thirteen_cut
       ∷ (lent net3, (lent (take 11 (label "GEN")), tt)) ↛ unknown 12  -- short_label_shown_as_12
       ∷ (lent [], (lent [], tt)) ↛ unknown 0  -- fourteen_before_one
+      ∷ (lent forgetful, (lent (label "HALL"), tt)) ↛ From 3  -- forgotten_answered
+      ∷ (lent forgetful, (lent (label "NOBODY"), tt)) ↛ unknown 12  -- fourteen_before_twenty_one
       ∷ [])
   unfolding paper Return·open Typed·open records below inner
   earth-not =
       by (λ r. told (said r)) (λ a. told (earthSaid (a .0 .now) (a .1 .0 .now))) (λ a z s. ap told (s .1))
-      (tt, (tt, (tt, (tt, (tt, (tt, (tt, (tt, (tt, (tt, (tt, (tt, tt)))))))))))) tt
+      (tt, (tt, (tt, (tt, (tt, (tt, (tt, (tt, (tt, (tt, (tt, (tt, (tt, (tt, tt)))))))))))))) tt

@@ -39,7 +39,7 @@ use Rattle.answer.specs.Posed.{Posed}
 use Rattle.solve.proofs.Ready.{accepted-ready}
 use Rattle.solve.proofs.Promised.{Allowed, refused-verdict, refused-written, accepted-verdict, accepted-written}
 
--- ---- 1 to 11: g was read
+-- ---- the network's own refusals: g was read
 pub refused-network : (net flt : List ℕ) (room : ℕ) (l : Label) {g : Network} {why : Refusal} → g ≡ networkOf net l → g .outcome ≡ Refused why → refusal net flt room ≡ some why
 unfolding solveRows
 refused-network net flt room l read h = ahead (networkRows net) (faultRows (boardsOf net) flt room) (network-broken net l read h)

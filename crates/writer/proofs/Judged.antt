@@ -149,7 +149,7 @@ module _ {volts unit n : ℕ} {page later : List ℕ} (h : HeadPut volts unit n 
         ∙ ap (λ (o : Option Refusal). unshown o then first (roomRows n room)) e
 
   module _ (room : ℕ) (l : Label) {j : Judged} (j-is : j ≡ judgement file l) where
-    -- 6 to 11
+    -- a board's own
     pub wrong-board : (j .number ≡ 0 → ⊥) → Refuses volts unit n room page (because (j .number) (j .place))
     unfolding unshown _then_
     wrong-board f bs g = by-file bs g room (first-broken file l j-is f)

@@ -56,6 +56,13 @@ bd-booth = bd "BOOTH-WEST-1" "GEN" 2 0 (ohms 30 10) (ohms 30 10) (ohms 90 30) (o
 abbrev file-two : List ℕ → List ℕ → List ℕ
 file-two a b = head 230 1000 2 ++ (a ++ b)
 
+-- 02, R-6: a source and a transformer without z1
+abbrev without-z1 : List Board
+without-z1 = gen ∷ board "HALL" "GEN" 4 11 (ohms 0 0) (ohms 0 0) (ohms 0 20) (ohms 0 0) ∷ replicate 370 gen
+
+abbrev bd-without : List ℕ
+bd-without = bd "HALL" "GEN" 4 11 (ohms 0 0) (ohms 0 0) (ohms 0 20) (ohms 0 0)
+
 -- ---- a call with n boards and a buffer, and its answer
 abbrev Call : Type 0
 Call = ℕ × (ℕ × (ℕ × (List Board × (RefT (List ℕ) × Unit {0}))))
@@ -63,8 +70,8 @@ Call = ℕ × (ℕ × (ℕ × (List Board × (RefT (List ℕ) × Unit {0}))))
 abbrev given : ℕ → List ℕ → Call
 given n out = (230, (1000, (n, (boards, (lent out, tt)))))
 
-abbrev given-two : List ℕ → Call
-given-two out = (230, (1000, (2, (two, (lent out, tt)))))
+abbrev given-two : List Board → List ℕ → Call
+given-two bs out = (230, (1000, (2, (bs, (lent out, tt)))))
 
 abbrev said : ℕ → ℕ → ℕ → Written
 said number place len = record { part = noPart; len = len; place = place; number = number }
@@ -128,17 +135,20 @@ module _ (κ : Lft) where
       ∷ given 1 (dots 51) ↛ answer 1 (said 20 1 0) (dots 51)  -- twenty_at_the_record
       ∷ given 1 (dots 52) ↛ answer 1 (said 20 0 0) (dots 52)  -- no_room_in_what_fits
       ∷ given 0 (dots 7) ↛ answer 0 (said 20 0 0) (dots 7)  -- twenty_before_three
-      ∷ given-two (dots 96) ↛ answer 2 (said 0 0 96) (file-two bd-booth bd-gen)  -- boards_exchanged
-      ∷ given-two (dots 96) ↛ answer 2 (said 0 0 96) (file-two bd-gen bd-gen)  -- first_board_twice
-      ∷ given-two (dots 96) ↛ answer 2 (said 0 0 96) (file-two bd-gen (replicate 44 0))  -- second_board_not_laid
+      ∷ given-two two (dots 96) ↛ answer 2 (said 0 0 96) (file-two bd-booth bd-gen)  -- boards_exchanged
+      ∷ given-two two (dots 96) ↛ answer 2 (said 0 0 96) (file-two bd-gen bd-gen)  -- first_board_twice
+      ∷ given-two two (dots 96) ↛ answer 2 (said 0 0 96) (file-two bd-gen (replicate 44 0))  -- second_board_not_laid
       ∷ given 2 (dots 96) ↛ answer 2 (said 7 1 0) (dots 96)  -- used_label_at_the_first
       ∷ given 2 (dots 0) ↛ answer 2 (said 20 0 0) (dots 0)  -- twenty_before_seven
       ∷ given 257 (dots 0) ↛ answer 257 (said 7 2 0) (dots 0)  -- n_257_judged
+      ∷ given-two without-z1 (dots 96) ↛ answer 2 (said 0 0 96) (file-two bd-gen bd-without)  -- forgotten_written
+      ∷ given-two without-z1 (dots 96) ↛ answer 2 (said 21 0 0) (dots 96)  -- twenty_one_without_its_place
+      ∷ given-two without-z1 (dots 0) ↛ answer 2 (said 20 0 0) (dots 0)  -- twenty_before_twenty_one
       ∷ [])
   unfolding paper Write·open Typed·open
   write-first-not =
       by (λ z. told (z .0) (z .1 .1 .1 .1 .1 .0 .now)) right (λ a z s i. told (s .0 i) (s .1 i))
-      (lit≤ tt, (lit≤ tt, (lit≤ tt, (lit≤ tt, (lit≤ tt, (lit≤ tt, (lit≤ tt, (lit≤ tt, (lit≤ tt, (lit≤ tt, (lit≤ tt, (lit≤ tt, (lit≤ tt, tt))))))))))))) tt
+      (lit≤ tt, (lit≤ tt, (lit≤ tt, (lit≤ tt, (lit≤ tt, (lit≤ tt, (lit≤ tt, (lit≤ tt, (lit≤ tt, (lit≤ tt, (lit≤ tt, (lit≤ tt, (lit≤ tt, (lit≤ tt, (lit≤ tt, (lit≤ tt, tt)))))))))))))))) tt
 
 -- ---- a page with one board's record. Its contract is said of any boards that the page holds, so each row is denied by what it says of that one
 abbrev page : List ℕ

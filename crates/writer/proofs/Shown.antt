@@ -1,4 +1,4 @@
--- What refuses the records of boards is what refuses the boards, shown in their records: the mark of each is right, and 6 to 11 ask the same of both. Assumes nothing.
+-- What refuses the records of boards is what refuses the boards, shown in their records: the mark of each is right, and the tests of a board are asked of both. Assumes nothing.
 use mathlib.Core.Bool.{true, false}
 use mathlib.Core.List.{List, [], _∷_, _++_}
 use mathlib.Core.Option.{Option, none, some}

@@ -1,6 +1,7 @@
 //! The paper's figures, worked through once more, and its printed example.
 
 pub mod earth;
+mod forgotten;
 mod typed;
 mod unearthed;
 
@@ -274,6 +275,7 @@ fn printed(run: &mut Run) {
 /// The refusal table, by hand.
 fn by_hand(run: &mut Run) {
     let lines = table::HEAD.iter().chain(&table::RECORDS);
+    let lines = lines.chain(&table::FORGOTTEN);
     let lines = lines.chain(&table::FAULTS).chain(&table::TYPED);
     for line in lines.chain(&table::NO_RETURN) {
         let mut net = network(230, 1000, &paper_records());
@@ -333,6 +335,7 @@ pub fn all() -> bool {
     typed::by_hand(&mut run);
     write::table::by_hand(&mut run);
     earth::by_hand(&mut run);
+    forgotten::by_hand(&mut run);
     println!("{} of {} figures agree", run.agree, run.all);
     run.agree == run.all
 }

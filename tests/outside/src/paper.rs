@@ -8,7 +8,7 @@
 pub enum WriterTest {
     /// 3: volts, unit, the number of boards.
     Head,
-    /// 6 to 11, record by record.
+    /// 6 to 11 and 21, record by record.
     Boards,
     /// 20: the output is shorter than the file.
     Room,
@@ -145,6 +145,40 @@ pub struct EarthReturn {
     pub long_refused: bool,
 }
 
+/// Where 21 is tested.
+#[derive(Clone, Copy)]
+pub enum Turn {
+    /// On each record behind this rule; the paper means 10.
+    Behind(u32),
+    /// On all records before any other rule of theirs, and when all of these are done with.
+    BeforeAll,
+    AfterAll,
+}
+
+/// Which forgotten transformers are seen.
+#[derive(Clone, Copy)]
+pub enum Seen {
+    /// The one that the paper means: each, so that the first is named.
+    Every,
+    /// The last of them only.
+    Last,
+    /// Only one that is the first transformer of the file.
+    FirstTransformer,
+}
+
+/// transformers whose z1 is forgotten.
+#[derive(Clone, Copy)]
+pub struct Forgotten {
+    /// 21.
+    pub number: u32,
+    pub turn: Turn,
+    /// The kinds that must have a z1.
+    pub kinds: &'static [u8],
+    /// Which of r and x of z1, z2, z0, zn are zero then, all of them: both of z1.
+    pub zero: &'static [usize],
+    pub seen: Seen,
+}
+
 #[derive(Clone, Copy)]
 pub struct Paper {
     /// How often zn counts in a zero-sequence term (3).
@@ -167,9 +201,9 @@ pub struct Paper {
     pub none_is_none: bool,
     /// Zero sequence is shared only under the same starting record.
     pub same_start_only: bool,
-    /// Rules tested in another order than the table's: this one and the next exchanged (0: none).
+    /// Rules tested in another order than the table's: this one and the next exchanged, 21 aside (0: none).
     pub exchanged: u32,
-    /// All of 5 to 11 are tried on a record before the next is looked at.
+    /// All of 5 to 11, and 21, are tried on a record before the next is looked at.
     pub record_by_record: bool,
     /// z2 of the source is its own, not z1 again.
     pub own_z2: bool,
@@ -193,6 +227,8 @@ pub struct Paper {
     pub unearthed: Unearthed,
     ///
     pub earth: EarthReturn,
+    ///
+    pub forgotten: Forgotten,
 }
 
 impl Paper {
@@ -251,6 +287,13 @@ impl Paper {
             short_refused: true,
             long_refused: true,
         },
+        forgotten: Forgotten {
+            number: 21,
+            turn: Turn::Behind(10),
+            kinds: &[3, 4, 5],
+            zero: &[0, 1],
+            seen: Seen::Every,
+        },
     };
 
     /// The rules from `first` to `last` in the order they are tested. 18 is withdrawn, so the
@@ -263,6 +306,25 @@ impl Paper {
             rules.swap(i, i + 1);
         }
         rules
+    }
+
+    /// The rules of a record, from `first` to 11 and 21 in its turn, as lists. A list is tried on all
+    /// records before the next list; on a record all of it before the next record.
+    pub fn passes(&self, first: u32) -> Vec<Vec<u32>> {
+        let mut rules = self.order(first, 11);
+        let passes = match self.forgotten.turn {
+            Turn::Behind(rule) => {
+                let at = rules.iter().position(|&r| r == rule);
+                rules.insert(at.map_or(0, |i| i + 1), 21);
+                vec![rules]
+            }
+            Turn::BeforeAll => vec![vec![21], rules],
+            Turn::AfterAll => vec![rules, vec![21]],
+        };
+        if self.record_by_record {
+            return passes;
+        }
+        passes.concat().iter().map(|&rule| vec![rule]).collect()
     }
 }
 

@@ -93,6 +93,10 @@ pub fn plan(net: &[u8], fault: &[u8]) -> Option<Plan> {
         if !first || up.map_or(!records.is_empty(), |u| u >= records.len()) {
             return None;
         }
+        // And no transformer is without impedance.
+        if (3..=5).contains(&b[26]) && pair(&b[28..]) == Num::ZERO {
+            return None;
+        }
         let record = record(b, up, &records);
         records.push(record);
     }

@@ -2,6 +2,7 @@
 
 use crate::earth::changed::Trials;
 use crate::edges::earth::{way, Way};
+use crate::edges::forgotten::Entry;
 use crate::edges::unearthed::{around, Around};
 use crate::edges::Edges;
 use crate::judge::earth::Traced;
@@ -13,7 +14,7 @@ use std::collections::BTreeMap;
 /// Outcomes of one entry point by their number.
 #[derive(Default)]
 struct Outcomes {
-    rules: [u64; 21],
+    rules: [u64; 22],
     /// Refusals by rule, at record 1, the last record, one between.
     places: BTreeMap<(u32, &'static str), u64>,
 }
@@ -152,6 +153,9 @@ impl Tally {
         self.to_solve.count(v.number, v.place, last);
         self.edges.look_solved(case, v);
         self.edges.look_typed(case, v);
+        let records = case.net.get(8..).unwrap_or(&[]);
+        self.edges
+            .look_forgotten(Entry::Solve, records, v.number, v.place);
         let (f, no_return) = (&case.fault, around(case, v));
         if let Some(a) = &no_return {
             self.edges.look_unearthed(case, v, a);
@@ -169,6 +173,8 @@ impl Tally {
         self.to_write.count(v.number, v.place, last);
         self.edges.look_written(case, v);
         self.edges.look_typed_boards(case, v);
+        self.edges
+            .look_forgotten(Entry::Write, &case.boards, v.number, v.place);
     }
 
     pub fn count_traced(&mut self, case: &EarthCase, v: &Traced) {
@@ -176,6 +182,9 @@ impl Tally {
         self.to_trace.count(v.number, v.place, last);
         let way = way(case, v);
         self.edges.look_traced(case, v, way.as_ref());
+        let records = case.net.get(8..).unwrap_or(&[]);
+        self.edges
+            .look_forgotten(Entry::Earth, records, v.number, v.place);
         match &way {
             Some(way) => self.traces.answered(v.earthed, way),
             None if v.number == 14 => self.traces.unknown(case.label.len()),
@@ -190,13 +199,14 @@ impl Tally {
     }
 
     pub fn print(&self) {
-        // 18 is withdrawn.
-        let rules: Vec<u32> = (0..20).filter(|&rule| rule != 18).collect();
-        self.to_solve.print("solve", &rules);
+        // In the order of their tests: 21 stands between 10 and 11. 18 is withdrawn.
+        let network: Vec<u32> = (0..=10).chain([21, 11]).collect();
+        let fault: &[u32] = &[12, 13, 14, 15, 16, 17, 19];
+        self.to_solve.print("solve", &[&network, fault].concat());
         self.to_write
-            .print("write", &[0, 3, 6, 7, 8, 9, 10, 11, 20]);
-        let network: Vec<u32> = (0..12).chain([14]).collect();
-        self.to_trace.print("earth", &network);
+            .print("write", &[0, 3, 6, 7, 8, 9, 10, 21, 11, 20]);
+        self.to_trace
+            .print("earth", &[&network[..], &[14]].concat());
         let all = [&self.to_solve, &self.to_write, &self.to_trace].map(Outcomes::all);
         let (cases, [solve, write, earth]) = (all.iter().sum::<u64>(), all);
         println!("cases {cases}: {solve} solve, {write} write, {earth} earth");

@@ -18,7 +18,7 @@ read-requires c κs = empty-rows
 enum-known-outcome : tie.Need-enum-known-outcome
 enum-known-outcome c = search needs
 
--- 1 to 11
+-- the network's own refusals
 returns : tie.Need-returns
 unfolding said
 returns c = says-network _ _ _ (c .before .before .before .read .ensures .0) (c .before .outcome .given .1)

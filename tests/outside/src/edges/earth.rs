@@ -42,7 +42,7 @@ pub fn way(case: &EarthCase, v: &Traced) -> Option<Way> {
 }
 
 /// A refusal of the network while the label is none as well: 14 must not come first.
-const WRONG_LABEL_TOO: [(u32, &str); 11] = [
+const WRONG_LABEL_TOO: [(u32, &str); 12] = [
     (1, "earth, refused: 1, and 14 too"),
     (2, "earth, refused: 2, and 14 too"),
     (3, "earth, refused: 3, and 14 too"),
@@ -53,6 +53,7 @@ const WRONG_LABEL_TOO: [(u32, &str); 11] = [
     (8, "earth, refused: 8, and 14 too"),
     (9, "earth, refused: 9, and 14 too"),
     (10, "earth, refused: 10, and 14 too"),
+    (21, "earth, refused: 21, and 14 too"),
     (11, "earth, refused: 11, and 14 too"),
 ];
 

@@ -1,6 +1,7 @@
 //! Which edges of the paper's ranges the cases have met, on either side.
 
 pub mod earth;
+pub mod forgotten;
 mod solve;
 mod typed;
 pub mod unearthed;

@@ -7,18 +7,26 @@ use std::collections::HashMap;
 
 /// Depth and sums of a board, carried from its feeder.
 #[derive(Clone, Copy, Default)]
-struct Level {
+pub struct Level {
     depth: u32,
     turn: u32,
     z: [u32; 4],
     z0: Option<[u32; 2]>,
 }
 
+impl Level {
+    /// A sum is over 4,095.
+    pub fn over(&self) -> bool {
+        let mut all = self.z.iter().chain(self.z0.iter().flatten());
+        all.any(|&z| z > 4095)
+    }
+}
+
 /// The levels of the first `count` records.
-fn levels(net: &[u8], count: usize) -> Vec<Level> {
+pub fn levels(records: &[u8], count: usize) -> Vec<Level> {
     let mut by_label: HashMap<Vec<u8>, Level> = HashMap::new();
     let mut out = Vec::new();
-    for b in net[8..].chunks_exact(44).take(count) {
+    for b in records.chunks_exact(44).take(count) {
         let above = by_label.get(&capitals(&b[14..26])).copied();
         let above = above.unwrap_or_default();
         let own = |i: usize| u32::from(part(b, i));
@@ -77,6 +85,8 @@ impl Edges {
             9 => self.refused_kind(case, v),
             10 => self.refused_part(case, v),
             11 => self.refused_sum(case, v),
+            // `forgotten` looks at it.
+            21 => {}
             _ => self.refused_fault(case, v.number),
         }
     }
@@ -115,7 +125,6 @@ impl Edges {
             self.edge((0..8).any(|i| part(b, i) == 4095), "taken: part 4095");
             let neutral = b[26] == 0 && part(b, 4) == 0 && part(b, 6) == 1365;
             self.edge(neutral, "taken: kind 0, r0 0, rn 1365");
-            self.edge(b[28..36] == [0; 8], "taken: z1 = z2 = 0");
             let own = b[26] < 2 && b[28..32] != b[32..36];
             self.edge(own, "taken: source with z1 not z2");
             self.edge(b[2..14].contains(&0x21), "taken: letter 0x21");
@@ -127,7 +136,7 @@ impl Edges {
 
     fn taken_sums(&mut self, case: &SolveCase, v: &Verdict) {
         let net = &case.net;
-        let all = levels(net, 256);
+        let all = levels(&net[8..], 256);
         let k = all[v.place as usize - 1];
         let any = |test: &dyn Fn(&Level) -> bool| all.iter().any(test);
         let deep = any(&|l| l.depth == 256);
@@ -257,7 +266,7 @@ impl Edges {
 
     fn refused_sum(&mut self, case: &SolveCase, v: &Verdict) {
         let b = record(case, v);
-        let all = levels(&case.net, v.place as usize);
+        let all = levels(&case.net[8..], v.place as usize);
         let last = all[v.place as usize - 1];
         let fits = |list: &[u32]| list.iter().all(|&z| z <= 4095);
         let just = last.z.contains(&4096);

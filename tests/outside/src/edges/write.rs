@@ -5,13 +5,14 @@ use crate::make::WriteCase;
 use crate::write::{file_length, Written};
 
 /// A refusal while the output is too short as well: 20 must not come first.
-const SHORT_TOO: [(u32, &str); 7] = [
+const SHORT_TOO: [(u32, &str); 8] = [
     (3, "unwritten: 3, and 20 too"),
     (6, "unwritten: 6, and 20 too"),
     (7, "unwritten: 7, and 20 too"),
     (8, "unwritten: 8, and 20 too"),
     (9, "unwritten: 9, and 20 too"),
     (10, "unwritten: 10, and 20 too"),
+    (21, "unwritten: 21, and 20 too"),
     (11, "unwritten: 11, and 20 too"),
 ];
 

@@ -240,7 +240,8 @@ pub fn streams() -> Vec<Row> {
 
 /// Every rule exchanged with the next, where one list holds both (4 and 5, 11 and 12 stand apart),
 /// and both broken. 6 and 7 are left out: a label of wrong form equals none that was let through,
-/// so no case breaks both and their order can't be seen.
+/// so no case breaks both and their order can't be seen. Where 21 stands between 10 and 11 is for
+/// `forgotten` to show.
 fn orders() -> Vec<Row> {
     let order = |name, rule, case| row(name, Order(rule), case, NOBODY);
     vec![

@@ -6,6 +6,7 @@
 //! drawn, so nothing depends on a seed; `hunt` says how soon the drawn cases meet the same faults.
 
 mod earth;
+mod forgotten;
 mod list;
 mod premise;
 mod typed;
@@ -50,6 +51,8 @@ enum Made {
     Earth(fn(&mut Draft) -> Vec<u8>),
     /// Any of these, where two labels meet.
     Met(typed::Meeting),
+    /// Of this entry point; an earth return is asked for at the fault's label.
+    Any(u32, fn(&mut Draft)),
 }
 
 impl Made {
@@ -58,15 +61,29 @@ impl Made {
             Made::Solve(change) => to_solve(note, change),
             Made::Write(change) => to_write(note, change),
             Made::Earth(change) => to_trace(note, change),
-            Made::Met(m) => match m.entry {
-                WRITE => to_write(note, |d| m.arrange(d)),
-                EARTH => to_trace(note, |d| {
-                    m.arrange(d);
-                    d.fault_label.to_vec()
-                }),
-                _ => to_solve(note, |d| m.arrange(d)),
-            },
+            Made::Met(m) => of_entry(m.entry, note, |d| m.arrange(d)),
+            Made::Any(entry, change) => of_entry(*entry, note, change),
         }
+    }
+}
+
+fn of_entry(entry: u32, note: &str, change: impl Fn(&mut Draft)) -> Case {
+    match entry {
+        WRITE => to_write(note, change),
+        EARTH => to_trace(note, |d| {
+            change(d);
+            d.fault_label.to_vec()
+        }),
+        _ => to_solve(note, change),
+    }
+}
+
+/// How titles begin.
+fn entry_name(entry: u32) -> &'static str {
+    match entry {
+        WRITE => "write: ",
+        EARTH => "earth: ",
+        _ => "",
     }
 }
 
@@ -128,6 +145,7 @@ fn rows() -> Vec<Row> {
     rows.extend(writer::streams());
     rows.extend(earth::streams());
     rows.extend(typed::others());
+    rows.extend(forgotten::others());
     rows
 }
 
@@ -138,14 +156,16 @@ fn drawn() -> Vec<Row> {
     rows.extend(writer::drawn());
     rows.extend(typed::drawn());
     rows.extend(earth::drawn());
+    rows.extend(forgotten::drawn());
     rows
 }
 
 impl Row {
-    /// The fault, and where two labels meet if that shows it.
+    /// The fault, and where two labels meet if that shows it, or who is asked.
     fn title(&self) -> String {
         match &self.made {
             Made::Met(m) => format!("{}, {}", self.name, m.told()),
+            Made::Any(entry, _) => format!("{}{}", entry_name(*entry), self.name),
             _ => self.name.into(),
         }
     }

@@ -2,7 +2,7 @@
 
 use super::writer::records;
 use super::Fault::{Reading, Solved, Written};
-use super::{Made, Row};
+use super::{entry_name, Made, Row};
 use crate::compare::Witness;
 use crate::judge::{FAULT, NETWORK};
 use crate::make::labels::label;
@@ -41,11 +41,7 @@ impl Meeting {
 
     pub fn told(&self) -> String {
         let [board, other] = self.labels.map(|l| l.escape_ascii());
-        let entry = match self.entry {
-            WRITE => "write: ",
-            EARTH => "earth: ",
-            _ => "",
-        };
+        let entry = entry_name(self.entry);
         format!("{entry}{} of {board} and {other}", self.rule)
     }
 

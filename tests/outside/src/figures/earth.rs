@@ -143,7 +143,7 @@ fn boards(run: &mut Run, name: &str, recs: &[Rec], lines: &[(&str, Due)]) {
     }
 }
 
-/// The deepest chain there can be: cables and star/star transformers by turns.
+/// The deepest chain there can be: cables without length and star/star transformers by turns.
 fn long(source: u8, at_200: u8) -> Vec<Rec> {
     let mut recs = tour();
     recs.truncate(1);
@@ -153,7 +153,9 @@ fn long(source: u8, at_200: u8) -> Vec<Rec> {
     for r in 2..=256 {
         let kind = if r == 200 { at_200 } else { 2 + r as u8 % 2 };
         let (own, feeder) = (format!("B{r}"), format!("B{}", r - 1));
-        recs.push(rec(&own, &feeder, kind, u8::from(kind == 4), [0; 8]));
+        let x = u16::from(kind > 2);
+        let z = [0, x, 0, x, 0, 0, 0, 0];
+        recs.push(rec(&own, &feeder, kind, u8::from(kind == 4), z));
     }
     recs[1].feeder = label(b"SET");
     recs
@@ -249,7 +251,8 @@ pub fn by_hand(run: &mut Run) {
     );
     deep(run);
     refused(run);
-    for line in table::HEAD.iter().chain(&table::RECORDS) {
+    let records = table::RECORDS.iter().chain(&table::FORGOTTEN);
+    for line in table::HEAD.iter().chain(records) {
         network_first(run, line);
     }
 }

@@ -1,9 +1,9 @@
-//! Rules 1 to 11: the network's bytes. The writer asks 3 and 6 to 11 too, so these look at
-//! decoded boards and not at bytes.
+//! Rules 1 to 11 and 21: the network's bytes. The writer asks 3, 6 to 11 and 21 too, so these
+//! look at decoded boards and not at bytes.
 
 use super::board::{word, Board, HEAD, RECORD};
 use super::{refusal, Verdict, NETWORK};
-use crate::paper::Paper;
+use crate::paper::{Paper, Seen};
 use crate::ring::Num;
 use std::collections::HashMap;
 
@@ -49,8 +49,8 @@ pub fn read(paper: &Paper, net: &[u8]) -> Result<Grid, Verdict> {
     let boards = Board::decode_all(records);
     let grid = join(paper, word(net, 2), word(net, 4), boards);
     let marked = |r: usize| records[RECORD * r..].starts_with(b"BD");
-    match first_broken(paper, &grid, (5, 11), marked) {
-        Some((rule, r)) => Err(refusal(rule, r + 1, NETWORK, HEAD + RECORD * r, RECORD)),
+    match first_broken(paper, &grid, 5, marked) {
+        Some((number, r)) => Err(refusal(number, r + 1, NETWORK, HEAD + RECORD * r, RECORD)),
         None => Ok(grid),
     }
 }
@@ -106,29 +106,30 @@ pub fn join(paper: &Paper, volts: u16, unit: u16, boards: Vec<Board>) -> Grid {
     }
 }
 
-/// The first broken rule of `from` to `to` and the index of its record. Whether a record has its
-/// mark (5) only the reader can say.
+/// The number of the first broken rule, of `first` to 11 and 21, and the index of its record. Whether a
+/// record has its mark (5) only the reader can say.
 pub fn first_broken(
     paper: &Paper,
     grid: &Grid,
-    (from, to): (u32, u32),
+    first: u32,
     marked: impl Fn(usize) -> bool,
 ) -> Option<(u32, usize)> {
-    let (count, rules) = (grid.boards.len(), paper.order(from, to));
     let breaks = |rule: u32, r: usize| match rule {
         5 => !marked(r),
         _ => breaks(paper, grid, rule, r),
     };
-    let broken = |rule: u32, r: usize| breaks(rule, r).then_some((rule, r));
-    if paper.record_by_record {
-        return (0..count).find_map(|r| rules.iter().find_map(|&rule| broken(rule, r)));
-    }
-    rules
-        .iter()
-        .find_map(|&rule| (0..count).find_map(|r| broken(rule, r)))
+    let number = |rule: u32| match rule {
+        21 => paper.forgotten.number,
+        _ => rule,
+    };
+    let broken = |rule: u32, r: usize| breaks(rule, r).then_some((number(rule), r));
+    paper.passes(first).iter().find_map(|rules| {
+        let mut records = 0..grid.boards.len();
+        records.find_map(|r| rules.iter().find_map(|&rule| broken(rule, r)))
+    })
 }
 
-/// Rules 6 to 11.
+/// Rules 6 to 11 and 21.
 fn breaks(paper: &Paper, grid: &Grid, rule: u32, r: usize) -> bool {
     let b = &grid.boards[r];
     match rule {
@@ -138,6 +139,7 @@ fn breaks(paper: &Paper, grid: &Grid, rule: u32, r: usize) -> bool {
         8 => grid.up[r].is_none(),
         9 => !kind_fits(b, r),
         10 => b.parts.iter().any(|&p| p > 4095) || !keeps_kind_rule(b),
+        21 => forgotten(paper, b) && seen(paper, grid, r),
         _ => super::chains::sums(paper, grid, r).over(paper.sum_most),
     }
 }
@@ -169,5 +171,21 @@ fn keeps_kind_rule(b: &Board) -> bool {
         2 => z1 == z2 && zn == none,
         3 | 4 => z1 == z2,
         _ => z1 == z2 && z0 == none && zn == none,
+    }
+}
+
+/// Rule 21: a transformer with z1 zero.
+fn forgotten(paper: &Paper, b: &Board) -> bool {
+    let rule = &paper.forgotten;
+    rule.kinds.contains(&b.kind) && rule.zero.iter().all(|&i| b.parts[i] == 0)
+}
+
+/// Not every one is seen under a wrong reading only.
+fn seen(paper: &Paper, grid: &Grid, r: usize) -> bool {
+    let (before, after) = (&grid.boards[..r], &grid.boards[r + 1..]);
+    match paper.forgotten.seen {
+        Seen::Every => true,
+        Seen::Last => !after.iter().any(|b| forgotten(paper, b)),
+        Seen::FirstTransformer => before.iter().all(|b| b.kind < 3),
     }
 }

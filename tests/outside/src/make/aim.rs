@@ -1,6 +1,7 @@
 //! One deliberate break of each rule, at any record where it can happen, just over the limit as
 //! often as far over it. Where a draft leaves no way to break a rule, it stays as it is.
 
+use super::forgotten;
 use super::labels::{label, malformed, mistaken, near, typed};
 use super::model::Draft;
 use super::{MOST_FAULT, MOST_NET};
@@ -14,6 +15,12 @@ pub fn break_rule(rng: &mut Rng, d: &mut Draft, rule: usize) {
         1 => last,
         _ => rng.range(0, last),
     };
+    break_at(rng, d, rule, r);
+}
+
+/// The same at this record, if it is a record's rule.
+pub fn break_at(rng: &mut Rng, d: &mut Draft, rule: usize, r: usize) {
+    let last = d.recs.len() - 1;
     match rule {
         1 => d.net_length = Some(rng.below(8)),
         2 => d.mark = mark(rng, *b"HD", b"BD"),
@@ -25,6 +32,7 @@ pub fn break_rule(rng: &mut Rng, d: &mut Draft, rule: usize) {
         8 => feeder(rng, d, r),
         9 => kind(rng, d, r),
         10 => impedance(rng, d, r),
+        21 => forgotten::one(rng, d),
         11 => sum(rng, d, r),
         12 => d.fault_length = Some(fault_length(rng)),
         13 => d.fault_mark = mark(rng, *b"FT", b"TF"),

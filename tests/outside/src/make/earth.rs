@@ -4,8 +4,8 @@
 
 use super::labels::{label, malformed, mistaken, near, typed, Label};
 use super::model::Draft;
-use super::{aim, damage, finish_earth, off_chain, sound, typed as cases, unearthed};
-use super::{EarthCase, SolveCase, MOST_LABEL};
+use super::{aim, damage, finish_earth, forgotten, off_chain, sound, typed as cases, unearthed};
+use super::{EarthCase, SolveCase, MOST_LABEL, NETWORK, RULES};
 use crate::rng::Rng;
 
 pub fn mixed(rng: &mut Rng) -> EarthCase {
@@ -27,8 +27,12 @@ pub fn mixed(rng: &mut Rng) -> EarthCase {
             let d = cases::draft(rng);
             finish_earth(&d, d.fault_label.to_vec(), "letter case")
         }
-        720..=859 => broken(rng, 1),
-        860..=929 => broken(rng, 2),
+        720..=764 => {
+            let d = forgotten::file(rng);
+            asked(rng, &d, 250, "forgotten")
+        }
+        765..=869 => broken(rng, 1),
+        870..=934 => broken(rng, 2),
         _ => damaged(rng),
     }
 }
@@ -113,13 +117,13 @@ fn broken(rng: &mut Rng, count: usize) -> EarthCase {
         false => sound::draft(rng),
     };
     let mut note = String::from("broken");
-    let mut rule = rng.range(1, 11);
+    let mut at = rng.below(NETWORK);
     for _ in 0..count {
-        aim::break_rule(rng, &mut d, rule);
-        note += &format!(" {rule}");
-        rule = match rng.coin() {
-            true => rule % 11 + 1,
-            false => rng.range(1, 11),
+        aim::break_rule(rng, &mut d, RULES[at]);
+        note += &format!(" {}", RULES[at]);
+        at = match rng.coin() {
+            true => (at + 1) % NETWORK,
+            false => rng.below(NETWORK),
         };
     }
     asked(rng, &d, 500, &note)

@@ -3,7 +3,8 @@
 
 use super::labels::Label;
 use super::model::Draft;
-use super::{aim, damage, finish_file, sound, typed, WriteCase, MOST_BOARDS, MOST_OUT};
+use super::{aim, damage, finish_file, forgotten, sound, typed};
+use super::{WriteCase, MOST_BOARDS, MOST_OUT};
 use crate::judge::board::{HEAD, RECORD};
 use crate::rng::Rng;
 
@@ -13,9 +14,10 @@ pub fn mixed(rng: &mut Rng) -> WriteCase {
         435..=509 => (typed::file(rng), "letter case".into()),
         510..=554 => (head_edges(rng), "edges of volts and unit".into()),
         555..=609 => (many(rng), "number of boards".into()),
-        610..=739 => broken(rng, 1),
-        740..=839 => broken(rng, 2),
-        840..=889 => broken(rng, 3),
+        610..=649 => (forgotten::file(rng), "forgotten".into()),
+        650..=759 => broken(rng, 1),
+        760..=844 => broken(rng, 2),
+        845..=889 => broken(rng, 3),
         890..=939 => (odd_fields(rng), "odd fields".into()),
         940..=959 => (moved(rng), "moved boards".into()),
         960..=974 => (foreign(rng), "bytes over 127".into()),
@@ -89,7 +91,7 @@ fn many(rng: &mut Rng) -> Draft {
 
 /// One to three rules broken at once, often neighbours in the table.
 fn broken(rng: &mut Rng, count: usize) -> (Draft, String) {
-    const RULES: [usize; 7] = [3, 6, 7, 8, 9, 10, 11];
+    const RULES: [usize; 8] = [3, 6, 7, 8, 9, 10, 21, 11];
     let (mut d, mut note) = (usual(rng), String::from("broken"));
     let mut at = rng.below(RULES.len());
     for _ in 0..count {

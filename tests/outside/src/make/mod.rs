@@ -4,6 +4,7 @@ mod aim;
 mod damage;
 mod earth;
 mod file;
+mod forgotten;
 pub mod labels;
 pub mod model;
 pub mod off_chain;
@@ -112,8 +113,9 @@ fn mixed(rng: &mut Rng) -> SolveCase {
         0..=424 => finish(sound::draft(rng), "sound"),
         425..=534 => finish(unearthed::draft(rng), "no earth return"),
         535..=584 => finish(typed::draft(rng), "letter case"),
-        585..=789 => broken(rng, 1),
-        790..=879 => broken(rng, 2),
+        585..=614 => finish(forgotten::draft(rng), "forgotten"),
+        615..=799 => broken(rng, 1),
+        800..=879 => broken(rng, 2),
         880..=899 => broken(rng, 3),
         900..=924 => damage::lengths(rng),
         925..=969 => damage::one_bit(rng),
@@ -152,10 +154,12 @@ pub fn finish_earth(draft: &Draft, label: Vec<u8>, note: &str) -> EarthCase {
     }
 }
 
-/// The table's rules; 18 is withdrawn.
-const RULES: [usize; 18] = [
-    1, 2, 3, 4, 5, 6, 7, 8, 9, 10, 11, 12, 13, 14, 15, 16, 17, 19,
+/// The table's rules in their order, 21 among them; 18 is withdrawn.
+const RULES: [usize; 19] = [
+    1, 2, 3, 4, 5, 6, 7, 8, 9, 10, 21, 11, 12, 13, 14, 15, 16, 17, 19,
 ];
+/// Those of them that are the network's own.
+const NETWORK: usize = 12;
 
 /// One to three rules broken at once; the second is often the next rule, where order shows most.
 fn broken(rng: &mut Rng, count: usize) -> SolveCase {

@@ -37,14 +37,19 @@ fn one(rng: &mut Rng, recs: &mut [Rec], off: &[usize], r: usize) {
     }
 }
 
-/// What a kind must not have is taken away, so that only its sums can be refused.
-fn as_kind(rng: &mut Rng, rec: &mut Rec, kind: u8) {
+/// What a kind must not have is taken away, and a transformer has a z1, so that only its sums can
+/// be refused.
+pub fn as_kind(rng: &mut Rng, rec: &mut Rec, kind: u8) {
     rec.kind = kind;
     rec.clock = clock(rng, kind);
     match kind {
         2 => rec.z[6..].fill(0),
         5 => rec.z[4..].fill(0),
         _ => {}
+    }
+    if (3..=5).contains(&kind) && rec.z[..4] == [0; 4] {
+        let x = rng.below(2);
+        (rec.z[x], rec.z[x + 2]) = (1, 1);
     }
 }
 

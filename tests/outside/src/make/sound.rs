@@ -114,28 +114,46 @@ fn zero_parts(rng: &mut Rng, size: Size, kind: u8, above: &Sums) -> [u32; 4] {
 }
 
 /// A source's impedance: not zero.
-fn source_pair(rng: &mut Rng, size: Size) -> [u32; 2] {
-    let mut pair = [part(rng, size, 4095), part(rng, size, 4095)];
+fn source_pair(rng: &mut Rng, size: Size, most: u32) -> [u32; 2] {
+    let mut pair = [part(rng, size, most), part(rng, size, most)];
     if pair == [0, 0] {
-        pair[rng.below(2)] = rng.pick(&[1, 1, 20, 4095]);
+        pair[rng.below(2)] = rng.pick(&[1, 1, 20, most]);
     }
     pair
 }
 
-fn impedances(rng: &mut Rng, size: Size, kind: u8, above: &Sums) -> [u16; 8] {
+/// What z1 = z2 of a fed board may still have in r and in x, up to `most`: it goes into both sums, and
+/// the fuller one decides.
+fn left(above: &Sums, most: u32) -> [u32; 2] {
     let s = above.0;
+    [0, 1].map(|i| most.saturating_sub(s[i].max(s[i + 2])))
+}
+
+/// z1 = z2 of a fed board: of a transformer not zero, as long as anything is left at all.
+fn fed_pair(rng: &mut Rng, size: Size, kind: u8, above: &Sums, most: u32) -> [u32; 2] {
+    let mut pair = left(above, most).map(|most| part(rng, size, most));
+    if kind > 2 && pair == [0, 0] {
+        let i = match left(above, 4095) {
+            [0, _] => 1,
+            [_, 0] => 0,
+            _ => rng.below(2),
+        };
+        pair[i] = 1;
+    }
+    pair
+}
+
+fn impedances(rng: &mut Rng, size: Size, kind: u8, above: &Sums, most: u32) -> [u16; 8] {
     let (a, b) = if kind < 2 {
-        let first = source_pair(rng, size);
+        let first = source_pair(rng, size, most);
         let again = if rng.coin() {
             first
         } else {
-            source_pair(rng, size)
+            source_pair(rng, size, most)
         };
         (first, again)
     } else {
-        // z1 = z2 goes into both sums: the fuller one decides.
-        let left = |i: usize| 4095 - s[i].max(s[i + 2]);
-        let both = [part(rng, size, left(0)), part(rng, size, left(1))];
+        let both = fed_pair(rng, size, kind, above, most);
         (both, both)
     };
     let zero = zero_parts(rng, size, kind, above);
@@ -227,22 +245,26 @@ fn grown(rng: &mut Rng, names: &[Label], shape: usize, mix: usize, unearthed: us
         256.. if rng.coin() => 0,
         _ => shape,
     };
+    // Up to the brim, or with a count left for each transformer there may be.
+    let most = 4095 - rng.pick(&[0, count as u32]);
     let mut sums: Vec<Sums> = Vec::with_capacity(count);
     for r in 0..count {
         let up = (r > 0).then(|| feeder(rng, shape, r));
+        let above = up.map_or(Sums::default(), |u| sums[u]);
         let kind = match up {
+            // Behind full sums there is room for a cable of no length only.
+            Some(_) if left(&above, 4095) == [0, 0] => 2,
             Some(_) => kind(rng, mix),
             None => u8::from(rng.permille(unearthed)),
         };
         let size = if rng.permille(100) { size(rng) } else { usual };
-        let above = up.map_or(Sums::default(), |u| sums[u]);
         draft.recs.push(Rec {
             mark: *b"BD",
             label: names[r],
             feeder: up.map_or([b' '; 12], |u| labels::typed(rng, &names[u], others)),
             kind,
             clock: clock(rng, kind),
-            z: impedances(rng, size, kind, &above),
+            z: impedances(rng, size, kind, &above, most),
         });
         draft.up.push(up);
         sums.push(above.with(&draft.recs[r]));

@@ -157,7 +157,7 @@ fn part(whole: &[u8], start: u32, length: u32) -> Vec<u8> {
 /// What `batch` may say next.
 pub enum Reply {
     Answer(Answer),
-    /// "END\n", "BUDG" or "CUT\n": no answer begins so, since its first number is at most 20.
+    /// "END\n", "BUDG" or "CUT\n": no answer begins so, since its first number is at most 21.
     Mark([u8; 4]),
     /// The output stops where something should stand, or can't be an answer.
     Broken(String),

@@ -58,7 +58,7 @@ fn refused(paper: &Paper, grid: &Grid, room: usize) -> Option<(u32, usize)> {
         WriterTest::Head => Some((3, 0)),
         // A mark is what the writer puts there itself: 5 is never asked.
         WriterTest::Boards => {
-            first_broken(paper, grid, (6, 11), |_| true).map(|(rule, r)| (rule, r + 1))
+            first_broken(paper, grid, 6, |_| true).map(|(number, r)| (number, r + 1))
         }
         WriterTest::Room => (room < file_length(count) + paper.spare_room).then_some((20, 0)),
     })

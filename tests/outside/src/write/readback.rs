@@ -52,7 +52,7 @@ pub fn check(case: &WriteCase, got: &WriteAnswer) -> Result<(), String> {
             need(alike, "the reader does not refuse this so")?;
         }
     }
-    let placed = place == 0 || (6..=11).contains(&got.verdict.number);
+    let placed = place == 0 || matches!(got.verdict.number, 6..=11 | 21);
     need(placed, "a place where none is due")?;
     let empty = got.verdict.number == 0 || length == 0;
     need(empty, "a length on a refusal")?;

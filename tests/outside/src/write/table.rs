@@ -77,7 +77,7 @@ const HEAD: [Line; 12] = [
     line("write 3: 372 boards", |a| many(a, 372), (3, 0)),
 ];
 
-const BOARDS: [Line; 13] = [
+const BOARDS: [Line; 17] = [
     line("write 6: spaces", |a| a.recs[1].label = [32; 12], (6, 2)),
     line("write 6: byte 0x80", |a| a.recs[2].label[3] = 0x80, (6, 3)),
     line(
@@ -96,6 +96,17 @@ const BOARDS: [Line; 13] = [
     line("write 10: rn 4,096", |a| a.recs[2].z[6] = 4096, (10, 3)),
     line("write 10: cable with zn", |a| a.recs[1].z[7] = 1, (10, 2)),
     line("write 10: z1 not z2", |a| a.recs[2].z[0] = 1, (10, 3)),
+    line("write 21: HALL", |a| a.recs[2].z[..4].fill(0), (21, 3)),
+    line("write 10, not 21", |a| a.recs[2].z[..2].fill(0), (10, 3)),
+    line("write: cable, z1 = 0", |a| a.recs[1].z[..4].fill(0), (0, 0)),
+    line(
+        "write 21, not 11: zn 1,366",
+        |a| {
+            a.recs[2].z.fill(0);
+            a.recs[2].z[7] = 1366;
+        },
+        (21, 3),
+    ),
     line("write: z0 90 + j4,075", |a| a.recs[1].z[5] = 4075, (0, 0)),
     // Z0 = j20 + j4,076.
     line("write 11: Z0 4,096", |a| a.recs[1].z[5] = 4076, (11, 2)),
@@ -139,7 +150,7 @@ const TYPED: [Line; 6] = [
     ),
 ];
 
-const ROOM: [Line; 7] = [
+const ROOM: [Line; 9] = [
     line("write 20: no output", |a| a.room = 0, (20, 0)),
     line("write 20: 139 bytes", |a| a.room = 139, (20, 0)),
     line("write: 141 bytes", |a| a.room = 141, (0, 0)),
@@ -158,6 +169,24 @@ const ROOM: [Line; 7] = [
             a.recs[1].z[5] = 4076;
             a.recs[2].label[0] = 0;
             a.room = 0;
+        },
+        (11, 2),
+    ),
+    line(
+        "write 21 before 20, and before the next record's 6",
+        |a| {
+            a.recs[1].kind = 3;
+            a.recs[1].z[..4].fill(0);
+            a.recs[2].label[0] = 0;
+            a.room = 0;
+        },
+        (21, 2),
+    ),
+    line(
+        "write 11 before the next record's 21",
+        |a| {
+            a.recs[1].z[5] = 4076;
+            a.recs[2].z[..4].fill(0);
         },
         (11, 2),
     ),
