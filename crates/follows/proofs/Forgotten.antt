@@ -28,18 +28,16 @@ use Rattle.paper.proofs.Typed.{ft, Typed·open}
 use Rattle.paper.proofs.Figures.{j, records}
 use Rattle.paper.proofs.ForgottenFigures.{forgetful, overgrown}
 use Rattle.follows.specs.Forgotten.{NoneForgotten, FirstForgotten, without, rowsBefore, upTo21, Got, GotFile, Named, NamedFile}
-use Rattle.follows.proofs.Rows.{_then_, first-then}
+use Rattle.follows.proofs.Rows.{_then_, first-then, Each, each-behind}
 
 -- ---- a table's rows of one number
 module _ (n : ℕ) where
   -- all of them test false, and none has place r
-  abbrev Quiet : ℕ → List Row → Type 0
-  Quiet r [] = Unit {0}
-  Quiet r (row m b p s ∷ rows) = (m ≡ n → (b ≡ false) × (p ≡ r → ⊥)) × Quiet r rows
+  abbrev Silent : ℕ → Row → Type 0
+  Silent r (row m b p s) = m ≡ n → (b ≡ false) × (p ≡ r → ⊥)
 
-  quiet-behind : (r : ℕ) (rows later : List Row) → Quiet r rows → Quiet r later → Quiet r (rows ++ later)
-  quiet-behind r [] later h k = k
-  quiet-behind r (row m b p s ∷ rows) later h k = (h .0, quiet-behind r rows later (h .1) k)
+  abbrev Quiet : ℕ → List Row → Type 0
+  Quiet r = Each (Silent r)
 
   -- there is none
   abbrev others : List Row → Bool
@@ -94,17 +92,17 @@ module _ (n : ℕ) where
   Found part (suc r) rows = Split (suc r) (part (suc r)) rows
 
   found-behind : (part : ℕ → Part) (r : ℕ) (rows later : List Row) → Quiet r rows → Found part r later → Found part r (rows ++ later)
-  found-behind part zero rows later h f = quiet-behind 0 rows later h f
+  found-behind part zero rows later h f = each-behind (Silent 0) rows later h f
   found-behind part (suc r) rows later h f =
       record {
         earlier = rows ++ f .earlier;
         later = f .later;
         is = ap (λ (l : List Row). rows ++ l) (f .is) ∙ sym (append-assoc rows (f .earlier) _);
-        quiet = quiet-behind (suc r) rows (f .earlier) h (f .quiet);
+        quiet = each-behind (Silent (suc r)) rows (f .earlier) h (f .quiet);
       }
 
   found-before : (part : ℕ → Part) (r : ℕ) (rows later : List Row) → Found part r rows → Quiet 0 later → Found part r (rows ++ later)
-  found-before part zero rows later f h = quiet-behind 0 rows later f h
+  found-before part zero rows later f h = each-behind (Silent 0) rows later f h
   found-before part (suc r) rows later f h =
       record { earlier = f .earlier; later = f .later ++ later; is = ap (λ (l : List Row). l ++ later) (f .is) ∙ append-assoc (f .earlier) _ later; quiet = f .quiet }
 
@@ -177,7 +175,7 @@ module _ {A : Type 0} (board : A → Board) (rows : Boards → A → List Row) (
       go found true = record { earlier = take k (rows before a); later = drop (suc k) (rows before a) ++ later; is = append-assoc (take k (rows before a)) _ later; quiet = own r }
       go found false =
           found-behind 21 part next (with21 before a false) later
-          (quiet-behind 21 next (take k (rows before a)) _ (own next)
+          (each-behind (Silent 21 next) (take k (rows before a)) _ (own next)
           ((λ _. (refl, not-before (suc r) r (map board rest) (omega arith) (omega arith))), quiet-others 21 next (drop (suc k) (rows before a)) (has before a .behind-others)))
           found
 

@@ -14,6 +14,7 @@ use Rattle.paper.specs.Rows.{Row, row, rowsAt, first}
 use Rattle.paper.specs.Refusal.{headRows, boardTests, recordRows, inOrder, recordsRows, recordsRefusal, theRecord, networkRows, faultRows, solveRows, refusal}
 use Rattle.paper.specs.Phase.{asked}
 use Rattle.paper.specs.Answer.{refused, answer, verdict}
+use Rattle.follows.proofs.Rows.{Each, each-behind}
 
 -- what holds of a refusal, where there is one
 abbrev pub Of : (Refusal → Type 0) → Option Refusal → Type 0
@@ -21,31 +22,26 @@ Of P none = Unit {0}
 Of P (some r) = P r
 
 module _ (P : Refusal → Type 0) where
-  -- and of that of each row
-  abbrev Each : List Row → Type 0
-  Each [] = Unit {0}
-  Each (row n b p s ∷ rows) = P (record { part = s; place = p; number = n }) × Each rows
+  -- and of a row's, if it is the one
+  abbrev By : Row → Type 0
+  By (row n b p s) = P (record { part = s; place = p; number = n })
 
-  first-of : (rows : List Row) → Each rows → Of P (first rows)
+  first-of : (rows : List Row) → Each By rows → Of P (first rows)
   unfolding first
   first-of [] h = tt
   first-of (row n true p s ∷ rows) h = h .0
   first-of (row n false p s ∷ rows) h = first-of rows (h .1)
 
-  each-behind : (rows later : List Row) → Each rows → Each later → Each (rows ++ later)
-  each-behind [] later h k = k
-  each-behind (row n b p s ∷ rows) later h k = (h .0, each-behind rows later (h .1) k)
-
-  each-record : ((before : Boards) (s : List ℕ) → Each (recordRows before s)) → (before : Boards) (recs : List (List ℕ)) → Each (recordsRows before recs)
+  each-record : ((before : Boards) (s : List ℕ) → Each By (recordRows before s)) → (before : Boards) (recs : List (List ℕ)) → Each By (recordsRows before recs)
   unfolding inOrder
   each-record h before [] = tt
-  each-record h before (s ∷ recs) = each-behind (recordRows before s) _ (h before s) (each-record h (before ++ (boardOf s ∷ [])) recs)
+  each-record h before (s ∷ recs) = each-behind By (recordRows before s) _ (h before s) (each-record h (before ++ (boardOf s ∷ [])) recs)
 
 -- ---- of a record: a number, its place, and its own bytes
 abbrev pub Recorded : Refusal → Type 0
 Recorded w = (0 < w .number) × (1 ≤ w .place) × (w .part ≡ theRecord (w .place))
 
-record-recorded : (before : Boards) (s : List ℕ) → Each Recorded (recordRows before s)
+record-recorded : (before : Boards) (s : List ℕ) → Each (By Recorded) (recordRows before s)
 unfolding recordRows rowsAt boardTests
 record-recorded before s = (by 5 tt, (by 6 tt, (by 7 tt, (by 8 tt, (by 9 tt, (by 10 tt, (by 21 tt, (by 11 tt, tt))))))))
   where
@@ -59,16 +55,16 @@ records-recorded net = first-of Recorded (recordsRows [] (recordsOf net)) (each-
 abbrev Numbered : Refusal → Type 0
 Numbered w = 0 < w .number
 
-numbered : (rows : List Row) → Each Recorded rows → Each Numbered rows
+numbered : (rows : List Row) → Each (By Recorded) rows → Each (By Numbered) rows
 numbered [] h = tt
 numbered (row n b p s ∷ rows) h = (h .0 .0, numbered rows (h .1))
 
-rows-numbered : (net flt : List ℕ) (room : ℕ) → Each Numbered (solveRows net flt room)
+rows-numbered : (net flt : List ℕ) (room : ℕ) → Each (By Numbered) (solveRows net flt room)
 unfolding solveRows networkRows headRows faultRows
 rows-numbered net flt room =
     let recs = recordsRows [] (recordsOf net) in
-    each-behind Numbered (networkRows net) (faultRows (boardsOf net) flt room)
-    (each-behind Numbered (headRows net) recs (lit< tt, (lit< tt, (lit< tt, (lit< tt, tt)))) (numbered recs (each-record Recorded record-recorded [] (recordsOf net))))
+    each-behind (By Numbered) (networkRows net) (faultRows (boardsOf net) flt room)
+    (each-behind (By Numbered) (headRows net) recs (lit< tt, (lit< tt, (lit< tt, (lit< tt, tt)))) (numbered recs (each-record Recorded record-recorded [] (recordsOf net))))
     (lit< tt, (lit< tt, (lit< tt, (lit< tt, (lit< tt, (lit< tt, (lit< tt, tt)))))))
 
 -- ---- so 0 is acceptance

@@ -1,4 +1,4 @@
--- No row tested true: then each tested false; and rows behind others. Assumes nothing.
+-- No row tested true: then each tested false; what holds of each row; and rows behind others. Assumes nothing.
 use mathlib.Core.Bool.{true, false}
 use mathlib.Core.List.{List, [], _∷_, _++_}
 use mathlib.Core.Option.{Option, none, some}
@@ -37,6 +37,15 @@ tests-at p s (test n b ∷ ts) = ap (λ l. test n b ∷ l) (tests-at p s ts)
 
 pub clear-at : (p : ℕ) (s : Part) (ts : List Test) → first (rowsAt p s ts) ≡ none → Clear ts
 clear-at p s ts e = subst Clear (tests-at p s ts) (clear (rowsAt p s ts) e)
+
+-- ---- what holds of each row
+abbrev pub Each : (Row → Type 0) → List Row → Type 0
+Each P [] = Unit {0}
+Each P (r ∷ rows) = P r × Each P rows
+
+pub each-behind : (P : Row → Type 0) (rows later : List Row) → Each P rows → Each P later → Each P (rows ++ later)
+each-behind P [] later h k = k
+each-behind P (r ∷ rows) later h k = (h .0, each-behind P rows later (h .1) k)
 
 -- ---- rows behind others: they are asked where none of these tests true
 infixr 20 _then_
