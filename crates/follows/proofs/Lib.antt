@@ -25,6 +25,7 @@ pub mod Fit
 pub mod Sound
 pub mod Accepted
 -- 02, R-6: the table with its row 21, and without it
+pub mod Without
 pub mod Forgotten
 -- the numbers R + jX, bare
 pub mod Flat

@@ -142,31 +142,28 @@ module _ (before : Boards) (s : List ℕ) (rest : Boards) where
   pub record-passes : broken place (markOf s) (boardOf s) own fed ≡ 0 → sums ≡ false → first (recordRows before s) ≡ none
   record-passes e h = record-kept e ∙ ap (λ (c : Bool). refusedAt place (theRecord place) (cond c 11 0)) h
 
--- ---- what the rules kept give: 5 to 10 and 21 each tested false
+-- ---- what the rules kept give: each tested false (the mark and z1 are nobody's concern later)
 kept : (n : ℕ) (c : Bool) (ts : List Test) → numberOf (test (suc n) c ∷ ts) ≡ 0 → (c ≡ false) × (numberOf ts ≡ 0)
 unfolding numberOf
 kept n true ts e = absurd (omega arith)
 kept n false ts e = (refl, e)
 
 pub record Kept (r mark : ℕ) (b : Board) (own fed : ℕ) : Type 0 where
-  pub marked : mark ≡ BD
   pub label-kept : formed (b .label) ≡ true
   pub own-kept : own ≡ r
   pub fed-kept : fedWrong r b fed ≡ false
   pub kind-kept : kindWrong r b ≡ false
   pub impedance-kept : impedanceWrong b ≡ false
-  pub z1-kept : z1Forgotten b ≡ false
 
 pub all-kept : (r mark : ℕ) (b : Board) (own fed : ℕ) → broken r mark b own fed ≡ 0 → Kept r mark b own fed
 unfolding broken
 all-kept r mark b own fed e =
-    let (t5, e5) = kept 4 _ _ e in
+    let (_, e5) = kept 4 _ _ e in
     let (t6, e6) = kept 5 _ _ e5 in
     let (t7, e7) = kept 6 _ _ e6 in
     let (t8, e8) = kept 7 _ _ e7 in
     let (t9, e9) = kept 8 _ _ e8 in
-    let (t10, e10) = kept 9 _ _ e9 in
-    record { marked = same-by mark BD t5; label-kept = not-false (formed (b .label)) t6; own-kept = same-by own r t7; fed-kept = t8; kind-kept = t9; impedance-kept = t10; z1-kept = kept 20 _ _ e10 .0 }
+    record { label-kept = not-false (formed (b .label)) t6; own-kept = same-by own r t7; fed-kept = t8; kind-kept = t9; impedance-kept = kept 9 _ _ e9 .0 }
 
 -- so its sums fit their words
 pub own-small : {r mark : ℕ} {b : Board} {own fed : ℕ} → Kept r mark b own fed → OwnSmall b

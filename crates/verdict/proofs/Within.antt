@@ -18,6 +18,7 @@ use Rattle.paper.specs.Phase.{asked}
 use Rattle.paper.specs.Answer.{accepted, refused, answer, verdict}
 use Rattle.paper.specs.Return.{labelRows, earthRows, earthRefusal, returnOf, earthAt, refusedOr, earthSaid}
 use Rattle.follows.proofs.Rows.{clear}
+use Rattle.follows.proofs.Numbered.{Of}
 use Rattle.follows.proofs.Accepted.{accepted-network, accepted-fault}
 use Rattle.node.proofs.Records.{recs-length}
 use Rattle.verdict.specs.Said.{partSaid}
@@ -26,15 +27,14 @@ use Rattle.verdict.specs.Shown.{Within}
 -- ---- what a refusal shows, of rows tried in their order
 module _ (P : Part → Type 0) where
   abbrev Shows : Option Refusal → Type 0
-  Shows none = Unit {0}
-  Shows (some r) = P (r .part)
+  Shows = Of (λ r. P (r .part))
 
   -- each row's part, where it tests true and the rows before it tested false
-  abbrev Each : List Row → Type 0
-  Each [] = Unit {0}
-  Each (row n b p s ∷ rest) = (b ≡ true → P s) × (b ≡ false → Each rest)
+  abbrev InTurn : List Row → Type 0
+  InTurn [] = Unit {0}
+  InTurn (row n b p s ∷ rest) = (b ≡ true → P s) × (b ≡ false → InTurn rest)
 
-  shows : (rows : List Row) → Each rows → Shows (first rows)
+  shows : (rows : List Row) → InTurn rows → Shows (first rows)
   unfolding first
   shows [] h = tt
   shows (row n true p s ∷ rest) h = h .0 refl
