@@ -1,4 +1,5 @@
 // The amps of a fault, whole.
+#![tactic(auto)]
 ghost use Rattle.std.specs.Prelude.{not, cond, ◌≡◌, ◌*◌, ◌≤◌, nat_abs};
 ghost use Rattle.root.specs.Root.{Root};
 ghost use Rattle.paper.specs.Amps.{factor};

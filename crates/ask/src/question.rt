@@ -10,7 +10,7 @@ use file::field::{FT, u16_at};
 use paper::{Fault, Lent, Ohms, Outcome, Part, Refusal};
 
 // The fault and its board's place are those of the bytes where they are accepted, and zeros where they are refused.
-#[derive(Drop)]
+#[derive(Clone, Copy)]
 pub struct Question {
     pub outcome: Outcome,
     pub fault: Fault,

@@ -13,6 +13,7 @@
 // An answer to 3: number, place, whether there is an earth return (1, else 0), whose bytes are shown (3 the label's; 0 of none), where they start, how many they are (four bytes each), and these bytes themselves.
 //
 // At the end of the input END and a line's end; where a case is cut off, asks another entry point, or says a length that it may not have, CUT and a line's end; after BUDGET cases BUDG.
+#![tactic(auto)]
 mod earthing;
 mod solving;
 mod writing;
@@ -35,7 +36,7 @@ const WRITE: usize = 2;
 const EARTH: usize = 3;
 
 // Why a run ends.
-#[derive(Drop)]
+#[derive(Clone, Copy)]
 enum End {
     Input,
     Cut,

@@ -10,7 +10,7 @@ use paper::{Fault, Seq};
 use turn::Num;
 
 // The fault at its board: the currents over D, what W0 is lifted by in the board's part, D, the head of that part, the board's turn, the odd phase, and whether the part has an earth return.
-#[derive(Drop)]
+#[derive(Clone, Copy)]
 pub struct Faulted {
     pub i: Seq,
     pub lift: Num,

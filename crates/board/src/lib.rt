@@ -1,4 +1,5 @@
 // The numbers of one board: voltages and currents, turned to its phases, in its part of the buffer. In `front`, what stands before all boards.
+#![tactic(auto)]
 pub mod front;
 mod phases;
 mod put;

@@ -6,7 +6,7 @@ use node::Node;
 use paper::Ohms;
 
 // The impedances that a board shares with the faulted one.
-#[derive(Drop)]
+#[derive(Clone, Copy)]
 pub struct Shared {
     pub z1: Ohms,
     pub z2: Ohms,

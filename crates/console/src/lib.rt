@@ -1,6 +1,7 @@
 // What the programs for a rigger's hand share: network.bin is read, and a text is printed.
 // A read that fails counts as the end of what is read: a missing file, or a directory, is an empty network. A write that fails is said on standard error; a program
 // of this language has no status of its own, so the scripts at the top end with 1 then.
+#![tactic(auto)]
 ghost use Rattle.std.specs.Prelude.{◌≡◌, length};
 ghost use Rattle.io.specs.Counts.{IsPrefixLen};
 ghost use Rattle.console.specs.Limits.{file_most};

@@ -1,4 +1,5 @@
 // Reads network.bin and, on standard input, a label of twelve bytes; prints where the board's earth return comes from, what stops it, or the refusal.
+#![tactic(auto)]
 ghost use Rattle.std.specs.Prelude.{◌≡◌, ◌≤◌, length};
 ghost use Rattle.decimal.specs.Wrote.{Wrote};
 ghost use Rattle.paper.specs.Return.{earth_said};

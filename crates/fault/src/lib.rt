@@ -1,5 +1,6 @@
 // The four faults at a board: D, the currents over it, and what W0 is lifted by; in the modules what they are divided by, what is different without earth return, and the voltages that they leave
 // at a board.
+#![tactic(auto)]
 mod divisor;
 mod unearthed;
 pub mod volts;
@@ -19,7 +20,7 @@ use phasor::sum::{add, conj, neg};
 use turn::Num;
 
 // D; I1, I2 and I0 over it; and what W0 is lifted by at the faulted board and the boards joined to it.
-#[derive(Drop)]
+#[derive(Clone, Copy)]
 pub struct Shorted {
     pub d: i64,
     pub i: Seq,

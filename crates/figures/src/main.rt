@@ -1,6 +1,7 @@
 // Answers the cases of its input, each behind three numbers of two bytes: the network's length, the fault's, and the room in the buffer.
 // For each it prints a line: the number, the place, N, the amps, whose bytes are shown, where they start and how many they are, and how many of the room's
 // numbers are as they were found; and, where the number is 0, the numbers of the answer: D, then twelve to a line.
+#![tactic(auto)]
 ghost use Rattle.std.specs.Prelude.{◌≤◌};
 
 use decimal::magnitude;

@@ -1,1 +1,2 @@
 // No functions: proofs/ shows that every number of the paper fits its word, and meets what `phasor` asks.
+#![tactic(auto)]

@@ -11,7 +11,7 @@ use Rattle.lemmas.proofs.Bools.{untrue, not_both}
 use Rattle.paper.specs.Bytes.{same_bytes, within}
 use Rattle.paper.specs.Label.{Label, spaces, blank, visible_then_blank, formed, capital, capitals, same_label}
 use Rattle.paper.proofs.Compare.{sameBytes→}
-use Rattle.follows.proofs.Places.{same_bytes}
+use Rattle.follows.proofs.Places.{same_bytes_lem}
 use Rattle.follows.proofs.Accepted.{within_true}
 
 -- ---- a byte: a small letter, or its own capital
@@ -92,7 +92,7 @@ same_capitals a b e = sameBytes→ (capitals a) (capitals b) (subst T (sym e) tt
 
 pub capitals_same : (a b : Label) → capitals a ≡ capitals b → same_label a b ≡ true
 unfolding same_label
-capitals_same a b e = ap (same_bytes (capitals a)) (sym e) ∙ same_bytes (capitals a)
+capitals_same a b e = ap (same_bytes (capitals a)) (sym e) ∙ same_bytes_lem (capitals a)
 
 pub same_sym : (a b : Label) → same_label a b ≡ same_label b a
 same_sym a b = go (same_label a b) refl

@@ -74,12 +74,12 @@ module _ {A : Type 0} (board : A → Board) (rows : Boards → A → List Row) (
     before_others : T (others 21 (take k (rows before a)))
     behind_others : T (others 21 (drop (suc k) (rows before a)))
 
-  in_order : ((before : Boards) (a : A) → Has21 before a) → (before : Boards) (all : List A) → Found 21 part (forgotten_from (suc (length before)) (map board all)) (in_order board rows before all)
+  in_order_lem : ((before : Boards) (a : A) → Has21 before a) → (before : Boards) (all : List A) → Found 21 part (forgotten_from (suc (length before)) (map board all)) (in_order board rows before all)
   unfolding in_order forgotten_from
-  in_order has before [] = tt
-  in_order has before (a ∷ rest) =
+  in_order_lem has before [] = tt
+  in_order_lem has before (a ∷ rest) =
       let count : length (before ++ (board a ∷ [])) ≡ suc (length before) = omega (arith, length-append before (board a ∷ [])) in
-      let found = subst (λ (m : ℕ). Found 21 part (forgotten_from (suc m) (map board rest)) later) count (in_order has (before ++ (board a ∷ [])) rest) in
+      let found = subst (λ (m : ℕ). Found 21 part (forgotten_from (suc m) (map board rest)) later) count (in_order_lem has (before ++ (board a ∷ [])) rest) in
       subst (λ (l : List Row). Found 21 part (cond (z1_forgotten (board a)) r next) (l ++ later)) (sym (has before a).is) (go found (z1_forgotten (board a)))
     where
       r : ℕ
@@ -112,13 +112,13 @@ records_found : (recs : List (List ℕ)) → Found 21 the_record (first_place (d
 unfolding record_rows rows_at board_tests
 records_found recs =
     subst (λ (bs : Boards). Found 21 the_record (first_place bs) (records_rows [] recs)) (decoded_map recs)
-    (in_order board_of record_rows the_record 6 (λ before s. record { is = refl; before_others = tt; behind_others = tt }) [] recs)
+    (in_order_lem board_of record_rows the_record 6 (λ before s. record { is = refl; before_others = tt; behind_others = tt }) [] recs)
 
 boards_found : (bs : Boards) → Found 21 (λ r. no_part) (first_place bs) (boards_rows [] bs)
 unfolding board_rows rows_at board_tests
 boards_found bs =
     subst (λ (all : Boards). Found 21 (λ r. no_part) (first_place all) (boards_rows [] bs)) (map-id bs)
-    (in_order (λ b. b) board_rows (λ r. no_part) 5 (λ before b. record { is = refl; before_others = tt; behind_others = tt }) [] bs)
+    (in_order_lem (λ b. b) board_rows (λ r. no_part) 5 (λ before b. record { is = refl; before_others = tt; behind_others = tt }) [] bs)
 
 -- ---- the three tables
 module _ (net : List ℕ) where

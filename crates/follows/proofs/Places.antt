@@ -12,14 +12,14 @@ use Rattle.paper.specs.Bytes.{same_bytes}
 use Rattle.paper.specs.Label.{Label, capitals, same_label}
 use Rattle.paper.specs.Chain.{Boards, no_board, board, look_from, place_of}
 
-pub same_bytes : (l : Label) → same_bytes l l ≡ true
+pub same_bytes_lem : (l : Label) → same_bytes l l ≡ true
 unfolding same_bytes
-same_bytes [] = refl
-same_bytes (x ∷ l) = simp (eq-eqb x x refl, same_bytes l)
+same_bytes_lem [] = refl
+same_bytes_lem (x ∷ l) = simp (eq-eqb x x refl, same_bytes_lem l)
 
 pub same_label_lem : (l : Label) → same_label l l ≡ true
 unfolding same_label
-same_label_lem l = same_bytes (capitals l)
+same_label_lem l = same_bytes_lem (capitals l)
 
 -- ---- one step
 pub look_here : (r : ℕ) (l : Label) (b : Board) (bs : Boards) → same_label l b.label ≡ true → look_from r l (b ∷ bs) ≡ r

@@ -7,7 +7,7 @@ ghost use Rattle.kind.specs.Zero.{zero_word};
 use paper::{Board, Ohms};
 
 // The column "Zero sequence" without its terms.
-#[derive(Drop)]
+#[derive(Clone, Copy)]
 pub enum ZeroWord {
     Starts,
     GoesOn,

@@ -10,14 +10,14 @@ use file::table::empty_board;
 use paper::Board;
 
 // For each board of a list of at most 256: the first place of its own label, and that of its feeder's.
-#[derive(Drop)]
+#[derive(Clone, Copy)]
 pub struct Places {
     pub own: [u16; 256],
     pub fed: [u16; 256],
 }
 
 // What a search among a network's records gives: every record's own and feeder's place, and that of the label that is asked for (0: none).
-#[derive(Drop)]
+#[derive(Clone, Copy)]
 pub struct Found {
     pub places: Places,
     pub asked: u16,

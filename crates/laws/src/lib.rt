@@ -1,1 +1,2 @@
 // Nothing runs here: demand 3 stands in specs/, and its proof in proofs/.
+#![tactic(auto)]

@@ -3,8 +3,7 @@
 -- of an expression is `lit z`, so that a large constant costs nothing. The carrier need be no set.
 -- ℤ is such a ring, with itself for the coefficients. Assumes nothing.
 use mathlib.Core.Path.{◌≡◌, refl, sym, ◌∙◌, ap, ap₂}
-use mathlib.Core.Bool.{Bool, true, false}
-use Prim.Native.Nat.{ℕ, zero, suc}
+use mathlib.Core.Bool.{Bool, false}
 use lib.Dec.{T, eqb, eqb→eq}
 use lib.IntN.{ℤ, pos, negsuc, neg_ℤ, ◌+ℤ◌, ◌*ℤ◌, +ℤ_assoc, +ℤ_comm, +ℤ_idl, +ℤ_invr, *ℤ_comm}
 use Rattle.lemmas.proofs.Integers.{*ℤ-assoc, *ℤ-distribr, one-*ℤ}

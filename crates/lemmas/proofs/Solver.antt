@@ -2,7 +2,7 @@
 -- An expression `E` is brought to a sorted list of terms by computation, and two expressions with one list have one value.
 -- A term has a key (the exponents, eight bits for each variable, as one native number), a coefficient and its variables in order.
 -- The keys only sort: where two keys are equal the variables are compared too, so no proof speaks of a key. Assumes nothing.
-use mathlib.Core.Path.{◌≡◌, refl, sym, ◌∙◌, ap, ap₂, subst}
+use mathlib.Core.Path.{◌≡◌, refl, sym, ◌∙◌, ap, ap₂}
 use mathlib.Core.List.{List, [], ◌∷◌}
 use mathlib.Core.Bool.{Bool, true, false}
 use Prim.Native.Nat.{ℕ, zero, suc, ◌+◌, ◌*◌, ◌^◌, compare, Ordering}

@@ -1,1 +1,2 @@
 // Nothing runs here: the proof tools stand in specs/.
+#![tactic(auto)]

@@ -1,4 +1,5 @@
 // A network, read: accepted, with what each board gets from its chain in the rows that are lent and with where the board stands that is asked for, or refused by the first rule that its bytes break.
+#![tactic(auto)]
 ghost use Rattle.std.specs.Prelude.{◌≡◌, []};
 ghost use Rattle.std.proofs.Math.Option.{none};
 ghost use Rattle.paper.specs.Bytes.{part};
@@ -18,7 +19,7 @@ use paper::{Head, Lent, Outcome, Part, Refusal};
 use records::judge;
 
 // The head and the place of the board that is asked for (0: none) are those of the network where it is accepted, and empty where it is refused. The boards themselves stay where they are looked up, and the nodes in the caller's rows.
-#[derive(Drop)]
+#[derive(Clone, Copy)]
 pub struct Network {
     pub outcome: Outcome,
     pub head: Head,

@@ -1,4 +1,5 @@
 // What a board gets from its chain, as the crates above pass it to each other: as a struct, and as a row of numbers that can be lent.
+#![tactic(auto)]
 ghost use Rattle.std.specs.Prelude.{◌≡◌, ◌<◌, get_or, set};
 ghost use Rattle.node.specs.Node.{no_node};
 ghost use Rattle.node.specs.Rows.{row_of, node_in, nodes_in};
@@ -7,7 +8,7 @@ use paper::Ohms;
 
 // What a board gets from its chain: sums, its feeder (0: none), the head of its part, where its zero sequence starts (0: nowhere, the part has no earth return), its turn.
 // All are words of 16 bits: a flag would leave a gap in each node, and a table with gaps is not cleared in one go.
-#[derive(Drop)]
+#[derive(Clone, Copy)]
 pub struct Node {
     pub z1: Ohms,
     pub z2: Ohms,

@@ -1,11 +1,8 @@
 -- 01, 'The four faults at board k': "Amps: the greatest whole n not above |I|·volts·1,000,000/unit". Assumes nothing.
-use Rattle.std.specs.Prelude.{Bool, cond, List, [], ◌∷◌, ℕ, zero, suc, ◌+◌, ◌*◌, ◌/◌, leb, nat_abs, get_or}
+use Rattle.std.specs.Prelude.{Bool, cond, [], ◌∷◌, ℕ, zero, suc, ◌+◌, ◌*◌, ◌/◌, leb, nat_abs, get_or}
 use Rattle.turn.specs.declared.Num.{Num}
 use Rattle.turn.specs.Number.{◌+N◌, ◌*N◌, conj_n}
-use Rattle.paper.specs.declared.Head.{Head}
-use Rattle.paper.specs.declared.Fault.{Fault}
 use Rattle.paper.specs.declared.Ohms.{Ohms}
-use Rattle.paper.specs.declared.Seq.{Seq}
 use Rattle.paper.specs.Phase.{Asked, the_d, the_i, shows}
 
 -- the greatest n with n·n ≤ m, for m below 4 to the number of digits: a binary digit at a time

@@ -1,16 +1,18 @@
 // The files and the answer of the paper, as the crates above pass them to each other. No functions: what each field means stands in specs/.
+#![tactic(auto)]
+
 use turn::Num;
 
 // An impedance, in counts. C's layout, as Board's.
 #[repr(C)]
-#[derive(Drop)]
+#[derive(Clone, Copy)]
 pub struct Ohms {
     pub r: u16,
     pub x: u16,
 }
 
 // The head without its mark.
-#[derive(Drop)]
+#[derive(Clone, Copy)]
 pub struct Head {
     pub volts: u16,
     pub unit: u16,
@@ -19,7 +21,7 @@ pub struct Head {
 
 // A board's record without its mark. The feeder is kept as it was written. Programs in C lend boards, so they lie as C lays them out.
 #[repr(C)]
-#[derive(Drop)]
+#[derive(Clone, Copy)]
 pub struct Board {
     pub z1: Ohms,
     pub z2: Ohms,
@@ -32,7 +34,7 @@ pub struct Board {
 }
 
 // The fault's record without its mark.
-#[derive(Drop)]
+#[derive(Clone, Copy)]
 pub struct Fault {
     pub zf: Ohms,
     pub label: [u8; 12],
@@ -41,7 +43,7 @@ pub struct Fault {
 }
 
 // A current or a voltage in its three sequences: positive, negative, zero.
-#[derive(Drop)]
+#[derive(Clone, Copy)]
 pub struct Seq {
     pub s1: Num,
     pub s2: Num,
@@ -49,7 +51,7 @@ pub struct Seq {
 }
 
 // The bytes that a call is lent: the network's, and those that say what is asked of it.
-#[derive(Drop)]
+#[derive(Clone, Copy)]
 pub enum Lent {
     NetworkBytes,
     FaultBytes,
@@ -57,7 +59,7 @@ pub enum Lent {
 }
 
 // A part of them.
-#[derive(Drop)]
+#[derive(Clone, Copy)]
 pub struct Part {
     pub whose: Lent,
     pub start: usize,
@@ -65,7 +67,7 @@ pub struct Part {
 }
 
 // The first rule that was broken: its number, the place that it names, the bytes that it shows.
-#[derive(Drop)]
+#[derive(Clone, Copy)]
 pub struct Refusal {
     pub part: Part,
     pub place: u16,
@@ -73,14 +75,14 @@ pub struct Refusal {
 }
 
 // Accepted, or refused by that rule.
-#[derive(Drop)]
+#[derive(Clone, Copy)]
 pub enum Outcome {
     Accepted,
     Refused(Refusal),
 }
 
 // What a call returns.
-#[derive(Drop)]
+#[derive(Clone, Copy)]
 pub struct Answer {
     pub amps: u64,
     pub part: Part,
@@ -90,7 +92,7 @@ pub struct Answer {
 }
 
 // What writing a network file returns: the file's length, or the first rule that the boards break.
-#[derive(Drop)]
+#[derive(Clone, Copy)]
 pub struct Written {
     pub part: Part,
     pub len: usize,
@@ -99,7 +101,7 @@ pub struct Written {
 }
 
 // Why a board has an earth return, or has none: the record that its zero sequence starts from, the record that stops it, or the first rule that network and label break.
-#[derive(Drop)]
+#[derive(Clone, Copy)]
 pub enum EarthReturn {
     From(u16),
     Stopped(u16),

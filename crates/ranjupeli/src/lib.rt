@@ -1,4 +1,5 @@
 // `solve`, `write` and `earth` for programs in C and Rust: the three functions of the archive, and their answers as C lays them out.
+#![tactic(auto)]
 ghost use Rattle.std.specs.Prelude.{◌≡◌, length};
 ghost use Rattle.paper.specs.Answer.{verdict, written};
 ghost use Rattle.paper.specs.Write.{write_verdict, write_leaves};
@@ -9,7 +10,7 @@ use paper::{Answer, Board, EarthReturn, Lent, Refusal, Written};
 
 // An answer without an enum and without a struct inside. bindings/ranjupeli.h says the same fields in the same order.
 #[repr(C)]
-#[derive(Drop)]
+#[derive(Clone, Copy)]
 pub struct Reply {
     pub amps: u64,
     pub start: usize,
@@ -59,7 +60,7 @@ pub extern "C" fn ranjupeli_solve(net: &[u8], flt: &[u8], buffer: &mut [i64]) ->
 
 // What writing returned. There is no part: no bytes were given.
 #[repr(C)]
-#[derive(Drop)]
+#[derive(Clone, Copy)]
 pub struct WriteReply {
     pub len: usize,
     pub place: u16,
@@ -93,7 +94,7 @@ pub extern "C" fn ranjupeli_write(
 
 // What asking for an earth return gave: number 0, whether there is one (1, else 0) and the record that is named; or the rule that is broken. An answer shows no bytes.
 #[repr(C)]
-#[derive(Drop)]
+#[derive(Clone, Copy)]
 pub struct EarthReply {
     pub start: usize,
     pub len: usize,

@@ -1,5 +1,6 @@
 // Reads networks off standard input, each behind its length in two bytes, and prints a line for each:
 // ACCEPTED and N, or REFUSED, the number, the place, and where the bytes that are shown start and how many they are.
+#![tactic(auto)]
 use file::field::u16_at;
 use libc::{STDIN_FILENO, STDOUT_FILENO};
 use network::Network;

@@ -1,4 +1,5 @@
 // The records, judged in file order: "5 to 11 are all tried on one record before the next.", and 21 with them.
+#![tactic(auto)]
 mod rules;
 pub mod sums;
 
@@ -19,14 +20,14 @@ use label::places::places_in;
 use node::{NUMBERS, Node, index, node_at, put_node};
 
 // A record judged: the number of the first broken rule of 5 to 11 with 21, or 0 and its node.
-#[derive(Drop)]
+#[derive(Clone, Copy)]
 pub(crate) struct Step {
     pub node: Node,
     pub number: u8,
 }
 
 // The records judged: the number and the place of the first that is refused, or 0 and 0; and the place of the board that is asked for (0: none).
-#[derive(Drop)]
+#[derive(Clone, Copy)]
 pub struct Judged {
     pub asked: u16,
     pub place: u16,

@@ -3,7 +3,7 @@
 use crate::wide::Wide;
 
 // A number by its 64 leading bits and the zeros before them, in 128: about head * 2^(64 - zeros). Of 0 the zeros are 128.
-#[derive(Drop)]
+#[derive(Clone, Copy)]
 struct Lead {
     head: u64,
     zeros: u64,

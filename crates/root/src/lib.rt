@@ -1,4 +1,6 @@
 // The greatest n with n * n * den <= num, for whole numbers of 128 bits.
+#![tactic(auto)]
+
 mod guess;
 mod reaches;
 pub mod wide;

@@ -3,14 +3,14 @@
 ghost use Rattle.std.specs.Prelude.{◌≡◌, ◌*◌, nat_le};
 ghost use Rattle.root.specs.Value.{value_of, wide_of, fitted_of};
 
-#[derive(Drop)]
+#[derive(Clone, Copy)]
 pub struct Wide {
     pub hi: u64,
     pub lo: u64,
 }
 
 // A number, where it is below 2^128.
-#[derive(Drop)]
+#[derive(Clone, Copy)]
 pub enum Fitted {
     Whole(Wide),
     Past,

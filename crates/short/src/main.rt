@@ -1,4 +1,5 @@
 // Reads network.bin and, on standard input, one fault; prints the answer, or the refusal.
+#![tactic(auto)]
 ghost use Rattle.std.specs.Prelude.{◌≡◌, ◌≤◌, length};
 ghost use Rattle.decimal.specs.Wrote.{Wrote};
 ghost use Rattle.text.specs.Text.{printed, text_most};

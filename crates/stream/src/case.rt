@@ -10,7 +10,7 @@ use file::table::empty_board;
 use paper::Board;
 
 // What a case says of itself: the entry point that it asks, the room that it lends, the bytes of its first part and of its second.
-#[derive(Drop)]
+#[derive(Clone, Copy)]
 pub struct Case {
     pub entry: usize,
     pub room: usize,

@@ -1,12 +1,12 @@
 -- The conjugate, and the numbers R + jX. Assumes nothing.
 use mathlib.Core.Path.{◌≡◌, refl, sym, ◌∙◌, ap}
-use mathlib.Core.List.{List, [], ◌∷◌}
+use mathlib.Core.List.{[], ◌∷◌}
 use Prim.Native.Nat.{ℕ, zero, suc, ◌+◌, ◌*◌}
 use native.Mathlib.Omega.{arith}
-use lib.IntN.{ℤ, pos, neg_ℤ, ◌+ℤ◌, ◌-ℤ◌, ◌*ℤ◌}
-use Rattle.lemmas.proofs.Solver.{var, con, ◌⊕◌, ◌⊗◌, ◌⊖◌, ⊝◌}
+use lib.IntN.{ℤ, neg_ℤ, ◌+ℤ◌, ◌-ℤ◌, ◌*ℤ◌}
+use Rattle.lemmas.proofs.Solver.{var, ◌⊕◌, ◌⊗◌, ◌⊖◌, ⊝◌}
 use Rattle.turn.specs.declared.Num.{Num}
-use Rattle.turn.specs.Number.{whole_n, complex_n, ◌+N◌, neg_n, ◌-N◌, ◌·N◌, ◌*N◌, times_t, power_n, turn_n, conj_n, square_n}
+use Rattle.turn.specs.Number.{whole_n, complex_n, ◌+N◌, neg_n, ◌·N◌, ◌*N◌, times_t, power_n, turn_n, conj_n, square_n}
 use Rattle.turn.proofs.Form.{Form, add_f, neg_f, timesTF, sum_f, mul_f, con_f, whole_f, complex_f, ring_f, by_coordinates}
 use Rattle.turn.proofs.Powers.{times_t_lem, power_add, turn_zero, turn_suc}
 

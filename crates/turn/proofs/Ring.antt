@@ -1,14 +1,12 @@
 -- The numbers are a commutative ring. Assumes nothing.
-use mathlib.Core.Path.{◌≡◌, refl, sym, ◌∙◌, ap}
-use mathlib.Core.Bool.{Bool, true, false}
-use mathlib.Core.List.{List, [], ◌∷◌}
-use lib.Dec.{T}
+use mathlib.Core.Path.{◌≡◌, refl, ap}
+use mathlib.Core.List.{[], ◌∷◌}
 use lib.IntN.{ℤ, pos, neg_ℤ, ◌+ℤ◌, ◌*ℤ◌}
-use Rattle.lemmas.proofs.Ring.{Coef, CRing, ℤcoef, isZero→}
+use Rattle.lemmas.proofs.Ring.{CRing, ℤcoef, isZero→}
 use Rattle.lemmas.proofs.Solver.{var, con, ◌⊕◌, ◌⊗◌, ⊝◌}
 use Rattle.turn.specs.declared.Num.{Num}
 use Rattle.turn.specs.Number.{whole_n, ◌+N◌, neg_n, ◌·N◌, ◌*N◌, times_t}
-use Rattle.turn.proofs.Form.{Form, add_f, neg_f, scale_f, mul_f, whole_f, ring_f, by_coordinates}
+use Rattle.turn.proofs.Form.{add_f, neg_f, scale_f, mul_f, whole_f, ring_f, by_coordinates}
 
 pub +N_assoc : (a b c : Num) → (a +N b) +N c ≡ a +N (b +N c)
 unfolding ◌+N◌

@@ -10,7 +10,7 @@ use Rattle.lemmas.proofs.Solver.{◌⊕◌, ⊝◌}
 use Rattle.lemmas.proofs.Solve.{solve}
 use Rattle.lemmas.proofs.Distance.{small_itself, small_weak, small_neg, small_add, small_sub, small_mul}
 use Rattle.turn.specs.declared.Num.{Num}
-use Rattle.turn.specs.Number.{complex_n, ◌+N◌, neg_n, ◌-N◌, ◌·N◌, ◌*N◌, times_t, power_n, turn_n}
+use Rattle.turn.specs.Number.{complex_n, ◌+N◌, neg_n, ◌-N◌, ◌*N◌, times_t, power_n, turn_n}
 use Rattle.turn.specs.Bounds.{Within}
 use Rattle.turn.proofs.Ring.{Nring}
 use Rattle.turn.proofs.Powers.{turn_zero, turn_suc}

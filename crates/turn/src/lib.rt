@@ -1,10 +1,12 @@
 // The number: x0 + x1 t + x2 t² + x3 t³ with whole coordinates, t a turn of 30 degrees forward.
 // Every impedance, current and voltage above this crate is one; specs/ says what each operation means. The operations themselves
 // are in `phasor`, so that a crate that only names numbers stands on none of them.
+#![tactic(auto)]
+
 ghost use Rattle.std.specs.Prelude.{◌≡◌};
 ghost use Rattle.turn.specs.Number.{whole_n, complex_n, one_n, j_n, a_n, a2_n};
 
-#[derive(Drop)]
+#[derive(Clone, Copy)]
 pub struct Num {
     pub x0: i64,
     pub x1: i64,

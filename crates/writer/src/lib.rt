@@ -1,4 +1,5 @@
 // The network file, written: volts, unit and decoded boards to the bytes that the reader reads, or the refusal that the reader would give.
+#![tactic(auto)]
 mod lay;
 pub mod lend;
 mod page;

@@ -1,12 +1,11 @@
--- The product by columns of 64 bits: a word past the second, or a carry out of it, puts it past 2 ^ 128.
 use Rattle.std.proofs.Common.{◌≡◌, ℕ, ◌+◌, ◌-◌, ◌*◌, ◌^◌, ◌<◌, ◌≤◌, sym, ap, ◌∙◌, le_trans, le-add_right, mul-le-mul_right, add-mul, mul_right_comm, arith, rules}
 use Rattle.root.specs.declared.wide.Wide.{Wide}
 use Rattle.root.specs.declared.wide.Fitted.TheVariants.{Whole, Past}
 use Rattle.root.specs.Value.{value_of, wide_of, fitted_of}
 use Rattle.root.proofs.WideLaws.{value_of_lem, value_lt, value_low, wide_of_lem, fitted_whole, fitted_past}
-use Rattle.root.proofs.wide.times.Statement.{statement}
-use Rattle.root.proofs.wide.times.Tie as tie
+use Rattle.root.proofs.wide.times.Goals as goal
 
+-- The product by columns of 64 bits: a word past the second, or a carry out of it, puts it past 2 ^ 128.
 by-words : (w : Wide) (x : ℕ) → value_of w * x ≡ w.hi * x * 2 ^ 64 + w.lo * x
 unfolding value_of
 by-words w x = add-mul (w.hi * 2 ^ 64) w.lo x ∙ ap (λ (n : ℕ). n + w.lo * x) (mul_right_comm w.hi (2 ^ 64) x)
@@ -41,32 +40,17 @@ module _ (w high low : Wide) (x : ℕ) (eh : high ≡ wide_of (w.hi * x)) (el : 
       let e : value_of made ≡ value_of w * x = rw one_word at whole in
       ap Whole (wide_of_lem made fl e) ∙ sym (fitted_whole (value_of w * x) (rw e at (value_lt made fh fl)))
 
-product-requires : tie.Need-product-requires
-product-requires c κs = search rules
+pub returns-then-high-ne0 : goal.returns-then-high-ne0
+returns-then-high-ne0 c =
+    let both = c in
+    past_word _ _ _ _ both.product-high.ensures both.product-low.ensures c.if-high-ne0.true
 
-product-requires-2 : tie.Need-product-requires-2
-product-requires-2 c κs = search rules
+pub returns-then-low-high : goal.returns-then-low-high
+returns-then-low-high c =
+    let both = c in
+    past-carry _ _ _ _ both.product-high.ensures both.product-low.ensures (search rules)
 
-returns : tie.Need-returns
+pub returns : goal.returns
 returns c =
-    let both = c.before.before in
-    past_word _ _ _ _ both.before.product.ensures both.product2.ensures c.if1.true
-
-sub-if2 : tie.Need-overflow-sub-if2
-sub-if2 c = search rules
-
-returns-2 : tie.Need-returns-2
-returns-2 c =
-    let both = c.before.before.before.before.before in
-    past-carry _ _ _ _ both.before.product.ensures both.product2.ensures (search rules)
-
-add-t6 : tie.Need-overflow-add-t6
-add-t6 c = search rules
-
-returns-3 : tie.Need-returns-3
-returns-3 c =
-    let both = c.before.before.before.before.before.before.before in
-    fits _ _ _ _ both.before.product.ensures both.product2.ensures (search rules) (search rules) (search rules)
-
-pub times-spec : {M : Type 1} → statement M
-times-spec = tie.close (tie.spec product-requires product-requires-2 returns sub-if2 returns-2 add-t6 returns-3)
+    let both = c in
+    fits _ _ _ _ both.product-high.ensures both.product-low.ensures (search rules) (search rules) (search rules)

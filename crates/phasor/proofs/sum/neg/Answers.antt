@@ -1,0 +1,28 @@
+use mathlib.Core.List.{List, []}
+use Rattle.lemmas.proofs.Solver.{var, ⊝◌}
+use Rattle.lemmas.proofs.Words.{Known, fits, reads as read}
+use Rattle.turn.specs.Number.{neg_n}
+use Rattle.turn.proofs.Operands.{coordinates}
+use Rattle.phasor.proofs.sum.neg.Reads as reads
+use Rattle.phasor.proofs.sum.neg.Lts as lts
+use Rattle.phasor.proofs.sum.neg.Goals as goal
+
+-- `phasor::sum::neg` meets its contract: no coordinate is the least word, which has no opposite. Assumes nothing.
+abbrev k : lts.After-struct-told4 reads.Pre reads.Post → List Known
+k c = coordinates c.before.before.before.before.requires []
+
+pub returns : goal.returns
+unfolding neg_n
+returns c = λ i. record { x0 = read (k c) (⊝ var 0) tt i; x1 = read (k c) (⊝ var 1) tt i; x2 = read (k c) (⊝ var 2) tt i; x3 = read (k c) (⊝ var 3) tt i }
+
+pub overflow_sub-r0 : goal.overflow_sub-r0
+overflow_sub-r0 c = fits (k c) (⊝ var 0) tt
+
+pub overflow_sub-r1 : goal.overflow_sub-r1
+overflow_sub-r1 c = fits (k c) (⊝ var 1) tt
+
+pub overflow_sub-r2 : goal.overflow_sub-r2
+overflow_sub-r2 c = fits (k c) (⊝ var 2) tt
+
+pub overflow_sub-r3 : goal.overflow_sub-r3
+overflow_sub-r3 c = fits (k c) (⊝ var 3) tt

@@ -1,0 +1,16 @@
+use mathlib.Core.Path.{ap, ◌∙◌}
+use lib.Dec.{lit≤}
+use Rattle.turn.specs.declared.Num.{Num}
+use Rattle.turn.specs.Number.{◌+N◌}
+use Rattle.turn.proofs.Within.{within_weak, within_neg}
+use Rattle.phasor.proofs.sum.sub.Goals as goal
+
+-- `phasor::sum::sub` meets its contract: it adds the opposite. Assumes nothing.
+pub returns : goal.returns
+returns c = c.add.ensures ∙ ap (λ (b : Num). c.args.a +N b) c.neg.ensures
+
+pub neg-requires : goal.neg-requires
+neg-requires c = within_weak (lit≤ tt) c.requires.addable_2
+
+pub add-requires : goal.add-requires
+add-requires c = (c.requires.addable, rw c.neg.ensures (within_neg c.requires.addable_2))
