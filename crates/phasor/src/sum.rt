@@ -6,8 +6,8 @@ ghost use Rattle.phasor.specs.Bounds.{Addable, Negatable};
 use turn::Num;
 
 pub fn add(a: Num, b: Num) -> Num
-    requires addable { Addable a }
-    requires addable_2 { Addable b }
+    requires a_addable { Addable a }
+    requires b_addable { Addable b }
     ensures { result ≡ a +N b }
 {
     let a0 = a.x0;
@@ -51,8 +51,8 @@ pub fn neg(a: Num) -> Num
 }
 
 pub fn sub(a: Num, b: Num) -> Num
-    requires addable { Addable a }
-    requires addable_2 { Addable b }
+    requires a_addable { Addable a }
+    requires b_addable { Addable b }
     ensures { result ≡ a -N b }
 {
     add(a, neg(b))

@@ -6,24 +6,21 @@ use Rattle.lemmas.proofs.Solver.{E, var, ◌⊕◌, ◌⊖◌, ◌⊗◌}
 use Rattle.lemmas.proofs.Words.{Known, fits, reads as read}
 use Rattle.turn.specs.Number.{◌*N◌, ◌+N◌, ◌·N◌, times_t}
 use Rattle.turn.proofs.Form.{mul_f, by_coordinates}
-use Rattle.phasor.proofs.Operands.{products}
-use Rattle.phasor.proofs.product.mul.Reads as reads
-use Rattle.phasor.proofs.product.mul.Lts as lts
+use Rattle.phasor.proofs.Operands.{Words, products}
+use Rattle.std.proofs.Common.{rules}
 use Rattle.phasor.proofs.product.mul.Goals as goal
 
 -- `phasor::product::mul` meets its contract. Each product of two coordinates is at most 2 ^ 60 from 0, and a coordinate of the result sums at most six:
 -- one computed test says that every part fits. That the code's sums are the definition's is the solver's. Assumes nothing.
-abbrev C : Type 0
-C = lts.After-struct-told8 reads.Pre reads.Post
+words_a : (c : goal.After-struct_told-8-1) → Words c.args.a
+words_a c = record { s0 = search rules; s1 = search rules; s2 = search rules; s3 = search rules }
+
+words_b : (c : goal.After-struct_told-8-1) → Words c.args.b
+words_b c = record { s0 = search rules; s1 = search rules; s2 = search rules; s3 = search rules }
 
 -- the sixteen products: a's coordinate i times b's coordinate j stands at 4 i + j
-abbrev k : C → List Known
-k c =
-    let o = c.struct-told8.given in
-    let s = c.before.before.before.before.struct-told4.given in
-    products c.before.before.before.before.before.before.before.before.requires
-    (record { s0 = record { sfits = s.0.1 }; s1 = record { sfits = s.1.0.1 }; s2 = record { sfits = s.1.1.0.1 }; s3 = record { sfits = s.1.1.1.0.1 } })
-    (record { s0 = record { sfits = o.0.1 }; s1 = record { sfits = o.1.0.1 }; s2 = record { sfits = o.1.1.0.1 }; s3 = record { sfits = o.1.1.1.0.1 } })
+abbrev k : goal.After-struct_told-8-1 → List Known
+k c = products c.requires (words_a c) (words_b c)
 
 -- the code's sums, of any sixteen
 abbrev Pairs : Type 0

@@ -3,13 +3,11 @@ use Rattle.lemmas.proofs.Solver.{var, ◌⊕◌, ◌⊗◌}
 use Rattle.lemmas.proofs.Words.{Known, fits, reads as read}
 use Rattle.turn.specs.Number.{square_n}
 use Rattle.turn.proofs.Operands.{coordinates}
-use Rattle.phasor.proofs.product.square.Reads as reads
-use Rattle.phasor.proofs.product.square.Lts as lts
 use Rattle.phasor.proofs.product.square.Goals as goal
 
 -- `phasor::product::square` meets its contract: a sum of two squares of numbers at most 2 ^ 30 from 0. Assumes nothing.
-abbrev k : lts.After-struct-told2 reads.Pre reads.Post → List Known
-k c = coordinates c.before.before.requires.within []
+abbrev k : goal.After-struct_told-2-1 → List Known
+k c = coordinates c.requires.within []
 
 pub returns : goal.returns
 unfolding square_n

@@ -3,13 +3,11 @@ use Rattle.lemmas.proofs.Solver.{var, ◌⊕◌}
 use Rattle.lemmas.proofs.Words.{Known, fits, reads as read}
 use Rattle.turn.specs.Number.{◌+N◌}
 use Rattle.turn.proofs.Operands.{coordinates}
-use Rattle.phasor.proofs.sum.add.Reads as reads
-use Rattle.phasor.proofs.sum.add.Lts as lts
 use Rattle.phasor.proofs.sum.add.Goals as goal
 
 -- `phasor::sum::add` meets its contract: each coordinate is a sum of two numbers at most 2 ^ 61 from 0. Assumes nothing.
-abbrev k : lts.After-struct-told8 reads.Pre reads.Post → List Known
-k c = let p = c.before.before.before.before.before.before.before.before.requires in coordinates p.0 (coordinates p.1 [])
+abbrev k : goal.After-struct_told-8-1 → List Known
+k c = coordinates c.requires.a_addable (coordinates c.requires.b_addable [])
 
 pub returns : goal.returns
 unfolding ◌+N◌

@@ -6,13 +6,11 @@ use Rattle.turn.specs.Number.{conj_n, ◌+N◌, ◌·N◌, power_n, times_t}
 use Rattle.turn.proofs.Form.{by_coordinates}
 use Rattle.turn.proofs.Conj.{conj_f}
 use Rattle.turn.proofs.Operands.{coordinates}
-use Rattle.phasor.proofs.sum.conj.Reads as reads
-use Rattle.phasor.proofs.sum.conj.Lts as lts
 use Rattle.phasor.proofs.sum.conj.Goals as goal
 
 -- `phasor::sum::conj` meets its contract: what the code computes of the coordinates is the sum of their turned-back powers. Assumes nothing.
-abbrev k : lts.After-struct-told4 reads.Pre reads.Post → List Known
-k c = coordinates c.before.before.before.before.requires []
+abbrev k : goal.After-struct_told-4-1 → List Known
+k c = coordinates c.requires []
 
 pub returns : goal.returns
 unfolding conj_n ◌+N◌ ◌·N◌ power_n times_t

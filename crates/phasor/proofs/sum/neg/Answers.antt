@@ -3,13 +3,11 @@ use Rattle.lemmas.proofs.Solver.{var, ⊝◌}
 use Rattle.lemmas.proofs.Words.{Known, fits, reads as read}
 use Rattle.turn.specs.Number.{neg_n}
 use Rattle.turn.proofs.Operands.{coordinates}
-use Rattle.phasor.proofs.sum.neg.Reads as reads
-use Rattle.phasor.proofs.sum.neg.Lts as lts
 use Rattle.phasor.proofs.sum.neg.Goals as goal
 
 -- `phasor::sum::neg` meets its contract: no coordinate is the least word, which has no opposite. Assumes nothing.
-abbrev k : lts.After-struct-told4 reads.Pre reads.Post → List Known
-k c = coordinates c.before.before.before.before.requires []
+abbrev k : goal.After-struct_told-4-1 → List Known
+k c = coordinates c.requires []
 
 pub returns : goal.returns
 unfolding neg_n

@@ -10,7 +10,7 @@ pub returns : goal.returns
 returns c = c.add.ensures ∙ ap (λ (b : Num). c.args.a +N b) c.neg.ensures
 
 pub neg-requires : goal.neg-requires
-neg-requires c = within_weak (lit≤ tt) c.requires.addable_2
+neg-requires c = within_weak (lit≤ tt) c.requires.b_addable
 
 pub add-requires : goal.add-requires
-add-requires c = (c.requires.addable, rw c.neg.ensures (within_neg c.requires.addable_2))
+add-requires c = record { a_addable = c.requires.a_addable; b_addable = rw c.neg.ensures (within_neg c.requires.b_addable) }
