@@ -5,7 +5,7 @@ use Prim.Native.Nat.{ℕ}
 use lib.Dec.{lit<}
 use lib.ListN.{get_or, set}
 use base.Fml.{Lft}
-use Rattle.lemmas.proofs.RuledOut.{◌↛◌, RuledOut, ever, ends, by, by_equation, list, lists, lent}
+use Rattle.lemmas.proofs.RuledOut.{◌↛◌, RuledOut, ever, ends, by, by_equation, list, lists, lent, lent_out}
 use Rattle.paper.specs.declared.Ohms.{Ohms}
 use Rattle.paper.specs.Kind.{ohms}
 use Rattle.node.specs.declared.Node.{Node}
@@ -38,8 +38,8 @@ module _ (κ : Lft) where
   node_at_not = by_equation (λ a. get_or (nodes_in a.0.now) a.1.0 no_node) (λ n. list (row_of n)) (λ a z e s. s) (lit< tt, (lit< tt, (lit< tt, tt))) tt
 
   pub put_node_not : RuledOut (put-node.Pre (κ, tt)) (ends (put-node.Post (κ, tt))) (
-      (lent rows, (1, (no_node, tt))) ↛ (tt, (lent rows, (1, (no_node, tt))))  -- nothing_put
-      ∷ (lent rows, (1, (no_node, tt))) ↛ (tt, (lent (set rows 0 (row_of no_node)), (1, (no_node, tt))))  -- put_before
+      (lent_out rows, (1, (no_node, tt))) ↛ (tt, (lent_out rows, (1, (no_node, tt))))  -- nothing_put
+      ∷ (lent_out rows, (1, (no_node, tt))) ↛ (tt, (lent_out (set rows 0 (row_of no_node)), (1, (no_node, tt))))  -- put_before
       ∷ [])
   unfolding row_of
   put_node_not = by (λ z. lists z.1.0.now) (λ a. lists (set a.0.now a.1.0 (row_of a.1.1.0))) (λ a z s. ap lists s) (lit< tt, (lit< tt, tt)) tt
