@@ -125,18 +125,18 @@ module _ (q : Asked) (a : Fair q) (u : unearthed q.boards q.k ≡ true) where
   sees j = shows fault.phase (turn_of boards j) (turn_of boards k) (voltage q j)
 
   module _ (e : fault.kind ≡ 1) where
-    no_short : the_short q ≡ no_short
+    no_short_lem : the_short q ≡ no_short
     unfolding the_short short_of unearthed_shorts
-    no_short = ap₂ (short_of _ _ _ _) u e
+    no_short_lem = ap₂ (short_of _ _ _ _) u e
 
     -- "all currents 0, D = 1"
     pub D_one : the_d q ≡ pos 1
     unfolding the_d D square_n power_n
-    D_one = ap D no_short
+    D_one = ap D no_short_lem
 
     pub no_current : the_i q ≡ seq nil_n nil_n nil_n
     unfolding the_i currents power_n times_t ◌+N◌ ◌*N◌ ◌·N◌ conj_n
-    no_current = ap currents no_short
+    no_current = ap currents no_short_lem
 
     lift_minus_one : lift q ≡ neg_n (whole_n (pos 1))
     unfolding lift lift_of

@@ -15,12 +15,12 @@ g-is c = c.earthed.ensures _ _
 asked : (c : tie.After-earthed) → ForΔ c.before.before.num_of_contract.result c.before.num-of2.result c.earthed.result
 asked c = rw (c.before.before.num_of_contract.ensures, c.before.num-of2.ensures, g-is c) (for-Δ (ranged c.before.before.before.requires))
 
--- Z1-as-Z2 + Z1-as-G
+-- Z1·Z2 + Z1·G
 sum : (c : tie.After-add) → let g = c.before.before.before in let a = g.before.before.num_of_contract.result in
     c.add.result ≡ a *N g.before.num-of2.result +N a *N g.earthed.result
 sum c = c.add.ensures ∙ ap₂ ◌+N◌ c.before.before.mul.ensures c.before.mul2.ensures
 
--- and with Z2-as-G
+-- and with Z2·G
 total : (c : tie.After-add2) → let g = c.before.before.before.before.before in
     let a = g.before.before.num_of_contract.result in
     let b = g.before.num-of2.result in
