@@ -47,7 +47,7 @@ module _ (q : Asked) where
   unfoldable pub the_i : Seq
   the_i = currents the_short
 
-  -- 02, R-2: what W0 is lifted by at k and the boards joined to it, where they have no earth return (board k's W1 is D - Z1-as-I1: it shares all of its chain with itself)
+  -- 02, R-2: what W0 is lifted by at k and the boards joined to it, where they have no earth return (board k's W1 is D - Z1·I1: it shares all of its chain with itself)
   unfoldable pub lift : Num
   lift = only_if (unearthed boards k) (lift_of fault.kind (whole_n the_d -N num_of (Z1 boards k) *N the_i.s1))
 
