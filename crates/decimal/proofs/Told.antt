@@ -7,10 +7,10 @@ use Prim.Native.Char.{code}
 use Prim.Native.String as S
 use lib.Dec.{T, eqb, leb, leb→le}
 use lib.ListN.{length, take, drop, replicate}
-use denote.Ref.{Bor}
+use denote.MutBor.{MutBor}
 use Rattle.lemmas.specs.Over.{over}
 use Rattle.lemmas.proofs.Bools.{both_t}
-use Rattle.lemmas.proofs.RuledOut.{Row, ◌↛◌, Asked, RuledOut, none, by, list, lent}
+use Rattle.lemmas.proofs.RuledOut.{Row, ◌↛◌, Asked, RuledOut, none, by, list}
 use Rattle.decimal.specs.Wrote.{Room, Wrote}
 
 -- words as bytes
@@ -18,13 +18,17 @@ abbrev pub bytes : S.String → List ℕ
 bytes S.[] = []
 bytes (S.◌∷◌ c s) = code c ∷ bytes s
 
+-- what a caller lends to be written
+abbrev pub lent_out : {A : Type 0} → List A → MutBor (List A)
+lent_out xs = record { ref_ptr = (0, 0); ghost_name = 0; now = xs }
+
 -- a buffer of n dots
-abbrev pub dots : ℕ → Bor (List ℕ)
-dots n = lent (replicate n 46)
+abbrev pub dots : ℕ → MutBor (List ℕ)
+dots n = lent_out (replicate n 46)
 
 -- an answer: the next place, and what the buffer holds then
-abbrev pub leaves : {A E : Type 0} → (A → ℕ → Bor (List ℕ) × E → Type 0) → A → ℕ × List ℕ → Type 0
-leaves {E = E} says a z = (e : Bor (List ℕ) × E) × (e.0.now ≡ z.1) × says a z.0 e
+abbrev pub leaves : {A E : Type 0} → (A → ℕ → MutBor (List ℕ) × E → Type 0) → A → ℕ × List ℕ → Type 0
+leaves {E = E} says a z = (e : MutBor (List ℕ) × E) × (e.0.now ≡ z.1) × says a z.0 e
 
 abbrev told : ℕ × List ℕ → ℕ
 told z = list (z.0 ∷ z.1)
@@ -38,12 +42,12 @@ room {at} {s} {buffer} t = record { fits = leb→le (at + length s) (length buff
 -- ---- calls with a buffer, a place in it, and more that the text is made of
 module _ {B : Type 0} (text : B → List ℕ) where
   abbrev Call : Type 0
-  Call = Bor (List ℕ) × (ℕ × B)
+  Call = MutBor (List ℕ) × (ℕ × B)
 
   abbrev Rows : Type 0
   Rows = List (Row Call (ℕ × List ℕ))
 
-  abbrev Writes : {E : Type 0} → Call → ℕ → Bor (List ℕ) × E → Type 0
+  abbrev Writes : {E : Type 0} → Call → ℕ → MutBor (List ℕ) × E → Type 0
   Writes a next e = Wrote a.1.0 (text a.1.1) a.0.now e.0.now next
 
   abbrev right : Call → ℕ × List ℕ

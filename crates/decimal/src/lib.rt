@@ -1,6 +1,7 @@
 // Bytes and numbers as text, written into a lent buffer; in the modules numbers in a row, and numbers as bytes.
 // Each function writes from a place on and returns the place behind.
 #![tactic(auto)]
+
 pub mod little;
 pub mod row;
 
