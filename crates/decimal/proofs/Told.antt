@@ -10,17 +10,13 @@ use lib.ListN.{length, take, drop, replicate}
 use denote.MutBor.{MutBor}
 use Rattle.lemmas.specs.Over.{over}
 use Rattle.lemmas.proofs.Bools.{both_t}
-use Rattle.lemmas.proofs.RuledOut.{Row, ◌↛◌, Asked, RuledOut, none, by, list}
+use Rattle.lemmas.proofs.RuledOut.{Row, ◌↛◌, Asked, RuledOut, none, by, list, lent_out}
 use Rattle.decimal.specs.Wrote.{Room, Wrote}
 
 -- words as bytes
 abbrev pub bytes : S.String → List ℕ
 bytes S.[] = []
 bytes (S.◌∷◌ c s) = code c ∷ bytes s
-
--- what a caller lends to be written
-abbrev pub lent_out : {A : Type 0} → List A → MutBor (List A)
-lent_out xs = record { ref_ptr = (0, 0); ghost_name = 0; now = xs }
 
 -- a buffer of n dots
 abbrev pub dots : ℕ → MutBor (List ℕ)

@@ -6,7 +6,8 @@ use mathlib.Core.Path.{◌≡◌, refl, ap, subst}
 use Prim.Native.Nat.{ℕ, suc, ◌+◌, ◌*◌}
 use lib.Dec.{T, eqb, eqb_refl}
 use lib.IntN.{ℤ, pos, negsuc}
-use denote.Ref.{Bor}
+use denote.Bor.{Bor}
+use denote.MutBor.{MutBor}
 use Rattle.lemmas.proofs.Bools.{both_t}
 
 -- a call's arguments, and an answer that is not its own
@@ -105,3 +106,7 @@ wholes (z ∷ zs) = suc (whole z) + 18446744073709551617 * wholes zs
 -- ---- what a caller lends
 abbrev pub lent : {A : Type 0} → List A → Bor (List A)
 lent xs = record { ref_ptr = (0, 0); now = xs }
+
+-- and lends to be written
+abbrev pub lent_out : {A : Type 0} → List A → MutBor (List A)
+lent_out xs = record { ref_ptr = (0, 0); ghost_name = 0; now = xs }

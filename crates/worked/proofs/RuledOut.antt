@@ -6,7 +6,7 @@ use lib.Dec.{lit<, lit≤}
 use lib.IntN.{ℤ, pos, negsuc, ◌-ℤ◌, ◌*ℤ◌}
 use base.Fml.{Lft}
 use Rattle.lemmas.specs.Over.{over}
-use Rattle.lemmas.proofs.RuledOut.{◌↛◌, RuledOut, ever, ends, by, by_equation, whole, wholes, lent}
+use Rattle.lemmas.proofs.RuledOut.{◌↛◌, RuledOut, ever, ends, by, by_equation, whole, wholes, lent_out}
 use Rattle.worked.specs.Four.{four_of}
 use Rattle.worked.proofs.less_square.Reads as less-square
 use Rattle.worked.proofs.square.Reads as square
@@ -36,8 +36,8 @@ square_not = by_equation (λ a. a.0 * a.0) (λ n. n) (λ a z e s. s) (lit< tt, (
 
 module _ (κ : Lft) where
   pub fill_not : RuledOut (fill.Pre (κ, tt)) (ends (fill.Post (κ, tt))) (
-      (lent (six 9 9 9 9 9 9), (1, (v, tt))) ↛ (tt, (lent (six 9 1 2 3 9 9), (1, (v, tt))))  -- fill_short_part
-      ∷ (lent (six 9 9 9 9 9 9), (2, (v, tt))) ↛ (tt, (lent (six 9 9 1 2 3 9), (2, (v, tt))))  -- fill_three
+      (lent_out (six 9 9 9 9 9 9), (1, (v, tt))) ↛ (tt, (lent_out (six 9 1 2 3 9 9), (1, (v, tt))))  -- fill_short_part
+      ∷ (lent_out (six 9 9 9 9 9 9), (2, (v, tt))) ↛ (tt, (lent_out (six 9 9 1 2 3 9), (2, (v, tt))))  -- fill_three
       ∷ [])
   unfolding over four_of
   fill_not =

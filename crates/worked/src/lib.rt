@@ -1,5 +1,6 @@
 // The worked examples of docs/PROVING.md, proved: one for each tool of `lemmas` that a function's proof uses.
 #![tactic(auto)]
+
 ghost use Rattle.std.specs.Prelude.{◌≡◌, ◌+◌, ◌*◌, ◌^◌, ◌<◌, ◌≤◌, ◌-ℤ◌, ◌*ℤ◌, length};
 ghost use Rattle.lemmas.specs.Small.{Small};
 ghost use Rattle.lemmas.specs.Over.{over};
