@@ -10,7 +10,7 @@ use borrow.Author.Tests.{le-leb, ne_eqb}
 use Rattle.lemmas.proofs.Bools.{untrue, not_both}
 use Rattle.paper.specs.Bytes.{same_bytes, within}
 use Rattle.paper.specs.Label.{Label, spaces, blank, visible_then_blank, formed, capital, capitals, same_label}
-use Rattle.paper.proofs.Compare.{sameBytes→}
+use Rattle.paper.proofs.Compare.{same_bytes→}
 use Rattle.follows.proofs.Places.{same_bytes_lem}
 use Rattle.follows.proofs.Accepted.{within_true}
 
@@ -88,7 +88,7 @@ spaces_capitals = go 12
 -- ---- equal labels: the same capitals (that a label equals itself is `same_label_lem` of Places)
 pub same_capitals : (a b : Label) → same_label a b ≡ true → capitals a ≡ capitals b
 unfolding same_label
-same_capitals a b e = sameBytes→ (capitals a) (capitals b) (subst T (sym e) tt)
+same_capitals a b e = same_bytes→ (capitals a) (capitals b) (subst T (sym e) tt)
 
 pub capitals_same : (a b : Label) → capitals a ≡ capitals b → same_label a b ≡ true
 unfolding same_label

@@ -37,8 +37,8 @@ three_e = con (whole_n (pos 3))
 abbrev a_e : E Num
 a_e = con (power_n 4)
 
-abbrev a²E : E Num
-a²E = con (power_n 8)
+abbrev a²_e : E Num
+a²_e = con (power_n 8)
 
 -- the third is the current to earth, and nothing is lifted; or, without earth return, it is the lift, and nothing goes to earth
 abbrev rival_e : Bool → SeqE
@@ -104,7 +104,7 @@ module _ (f : Fault) (z1 z2 z0 : Ohms) (e : ℤ) (F : Seq) where
       let s = Z2E ⊕ ZfE in
       let none = cancel_divisor z2 z2 z0 f.zf 0 nz nz F.s2 nil_n (by (s ⊗ var 7) (s ⊗ nil_e) (⊝ one_e, a_e, nil_e) tt) in
       record {
-        over1 = by (d ⊗ var 6) (source_e ⊗ one_e) (⊝ one_e, a²E, nil_e) tt;
+        over1 = by (d ⊗ var 6) (source_e ⊗ one_e) (⊝ one_e, a²_e, nil_e) tt;
         over2 = solve_by Nring 3 (λ d u x. eqn d x (con (pos 0)) ∷ []) (λ d u x. d ⊗ x) (λ d u x. u ⊗ con (pos 0)) tt (num_of z1 +N num_of f.zf) (whole_n e) F.s2 (none, tt);
         over0 = by (d ⊗ var 8) (source_e ⊗ nil_e) (nil_e, nil_e, d) tt;
       }
@@ -114,16 +114,16 @@ module _ (f : Fault) (z1 z2 z0 : Ohms) (e : ℤ) (F : Seq) where
   unfolding short_of shorts G power_n times_t voltage_of
   one_to_earth h =
       let d = (row_e 1 false).divisor in
-      let b = Z0E ⊕ a_e ⊗ Z1E ⊕ a²E ⊗ Z2E in
-      let c = Z0E ⊕ a²E ⊗ Z1E ⊕ a_e ⊗ Z2E in
-      fractions f z1 z2 z0 e F.s1 F.s2 F.s0 false 1 h (⊝ three_e, a_e ⊗ d ⊖ b, a²E ⊗ d ⊖ c) (⊝ three_e, a²E ⊗ d ⊖ b, a_e ⊗ d ⊖ c) (⊝ three_e, d ⊖ b, d ⊖ c) tt tt tt
+      let b = Z0E ⊕ a_e ⊗ Z1E ⊕ a²_e ⊗ Z2E in
+      let c = Z0E ⊕ a²_e ⊗ Z1E ⊕ a_e ⊗ Z2E in
+      fractions f z1 z2 z0 e F.s1 F.s2 F.s0 false 1 h (⊝ three_e, a_e ⊗ d ⊖ b, a²_e ⊗ d ⊖ c) (⊝ three_e, a²_e ⊗ d ⊖ b, a_e ⊗ d ⊖ c) (⊝ three_e, d ⊖ b, d ⊖ c) tt tt tt
 
   -- Ia = 0 and Ib = -Ic make I0 = 0 and I2 = -I1; (a² - a)² = -3
   two_phases_lem : Earthed 2 → Fraction 2
   unfolding short_of shorts power_n times_t voltage_of
   two_phases_lem h =
       let d = (row_e 2 false).divisor in
-      fractions f z1 z2 z0 e F.s1 F.s2 F.s0 false 2 h (Z2E ⊕ Z2E ⊕ ZfE, a²E ⊗ ZfE ⊖ Z2E, a²E ⊖ a_e) (Z1E ⊕ Z1E ⊕ ZfE, a_e ⊗ ZfE ⊖ Z1E, a_e ⊖ a²E) (d, d, nil_e) tt tt tt
+      fractions f z1 z2 z0 e F.s1 F.s2 F.s0 false 2 h (Z2E ⊕ Z2E ⊕ ZfE, a²_e ⊗ ZfE ⊖ Z2E, a²_e ⊖ a_e) (Z1E ⊕ Z1E ⊕ ZfE, a_e ⊗ ZfE ⊖ Z1E, a_e ⊖ a²_e) (d, d, nil_e) tt tt tt
 
   -- the conditions say that I1 + I2 + I0 = 0, W1 = W2 and W0 - W1 = 3 Zf I0: `by` takes the multipliers of these three
   two_to_earth : Earthed 3 → Fraction 3
@@ -131,7 +131,7 @@ module _ (f : Fault) (z1 z2 z0 : Ohms) (e : ℤ) (F : Seq) where
   two_to_earth h = fractions f z1 z2 z0 e F.s1 F.s2 F.s0 false 3 h (by (Z2E ⊗ GE) (⊝ GE) Z2E) (by (Z1E ⊗ GE) (GE ⊕ Z1E) Z1E) (by (Z1E ⊗ Z2E) (⊝ Z1E) (⊝ (Z1E ⊕ Z2E))) tt tt tt
     where
       by : E Num → E Num → E Num → Multipliers
-      by p q r = (three_e ⊗ (p ⊖ ZfE ⊗ r), (a_e ⊖ a²E) ⊗ q ⊕ (one_e ⊖ a_e) ⊗ r, three_e ⊗ r)
+      by p q r = (three_e ⊗ (p ⊖ ZfE ⊗ r), (a_e ⊖ a²_e) ⊗ q ⊕ (one_e ⊖ a_e) ⊗ r, three_e ⊗ r)
 
   earthed : is_zero z2 ≡ false → (kind : ℕ) → Earthed kind → Fraction kind
   unfolding Condition
@@ -154,7 +154,7 @@ module _ (f : Fault) (z1 z2 z0 : Ohms) (e : ℤ) (F1 F2 up : Num) where
   unfolding short_of unearthed_shorts lift_of only_if power_n times_t voltage_of
   one_lifted h =
       let p = a_e ⊖ one_e in
-      let q = a²E ⊖ one_e in
+      let q = a²_e ⊖ one_e in
       let r = Z2E ⊕ ZfE in
       record {
         currents_are = fractions f z1 z2 z0 e F1 F2 up true 1 h (nil_e, p, q) (nil_e, q, p) (nil_e, nil_e, nil_e) tt tt tt;
@@ -166,7 +166,7 @@ module _ (f : Fault) (z1 z2 z0 : Ohms) (e : ℤ) (F1 F2 up : Num) where
   unfolding short_of unearthed_shorts lift_of only_if power_n times_t voltage_of
   two_lifted h =
       record {
-        currents_are = fractions f z1 z2 z0 e F1 F2 up true 3 h (three_e ⊗ Z2E, a²E ⊖ a_e, nil_e) (three_e ⊗ Z1E, a_e ⊖ a²E, nil_e) (nil_e, nil_e, nil_e) tt tt tt;
+        currents_are = fractions f z1 z2 z0 e F1 F2 up true 3 h (three_e ⊗ Z2E, a²_e ⊖ a_e, nil_e) (three_e ⊗ Z1E, a_e ⊖ a²_e, nil_e) (nil_e, nil_e, nil_e) tt tt tt;
         lift_is = forced f z1 z2 z0 e F1 F2 up true 3 h (var 8) (source_e ⊖ Z1E ⊗ var 6) (⊝ (three_e ⊗ ZfE), one_e ⊖ a_e, three_e) tt;
       }
 

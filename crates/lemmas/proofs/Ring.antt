@@ -44,9 +44,9 @@ abbrev pub is_zero : ℤ → Bool
 is_zero (pos n) = eqb n 0
 is_zero (negsuc n) = false
 
-pub isZero→ : (c : ℤ) → T (is_zero c) → c ≡ pos 0
-isZero→ (pos n) t = ap pos (eqb→eq n 0 t)
-isZero→ (negsuc n) t = absurd t
+pub is_zero→ : (c : ℤ) → T (is_zero c) → c ≡ pos 0
+is_zero→ (pos n) t = ap pos (eqb→eq n 0 t)
+is_zero→ (negsuc n) t = absurd t
 
 abbrev pub ℤcoef : Coef
 ℤcoef = record { K = ℤ; kone = pos 1; kadd = ◌+ℤ◌; kmul = ◌*ℤ◌; kneg = neg_ℤ; kzero = is_zero }
@@ -68,7 +68,7 @@ abbrev pub ℤring : CRing ℤcoef
   mul_comm = *ℤ_comm;
   mul_uni = one-*ℤ;
   distr = *ℤ-distribr;
-  lit_zer = isZero→;
+  lit_zer = is_zero→;
   lit_uni = refl;
   lit_add = λ x y. refl;
   lit_mul = λ x y. refl;

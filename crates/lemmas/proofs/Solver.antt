@@ -102,11 +102,11 @@ module _ (κ : Coef) where
   same_by hs a b = nil (norm (less hs (a ⊖ b)))
 
 -- ---- what the tests say
-eqL→ : (m n : List ℕ) → T (eq_l m n) → m ≡ n
-eqL→ [] [] t = refl
-eqL→ [] (w ∷ n) t = absurd t
-eqL→ (v ∷ m) [] t = absurd t
-eqL→ (v ∷ m) (w ∷ n) t = go (eqb v w) (eqb→eq v w) (eqL→ m n) t
+eq_l→ : (m n : List ℕ) → T (eq_l m n) → m ≡ n
+eq_l→ [] [] t = refl
+eq_l→ [] (w ∷ n) t = absurd t
+eq_l→ (v ∷ m) [] t = absurd t
+eq_l→ (v ∷ m) (w ∷ n) t = go (eqb v w) (eqb→eq v w) (eq_l→ m n) t
   where
     go : (b : Bool) → (T b → v ≡ w) → (T (eq_l m n) → m ≡ n) → T (elim b as (λ _. Bool) [ true ↦ eq_l m n | false ↦ false ]) → v ∷ m ≡ w ∷ n
     go true h r t = ap₂ ◌∷◌ (h tt) (r t)
@@ -183,7 +183,7 @@ module _ {κ : Coef} (R : CRing κ) (ρ : List R.C) where
             ])
             ≡ add (add (mul (lit c) (ev_m m)) s) (add (mul (lit d) (ev_m n)) (ev_p q))
         go Ordering.lt h = ap (λ t. add (mul (lit c) (ev_m m)) t) (hf (tm k' d n ∷ q)) ∙ sym (add_assoc (mul (lit c) (ev_m m)) s (ev_p (tm k' d n ∷ q)))
-        go Ordering.eq h = into_eq k' d n q (eq_l m n) (eqL→ m n)
+        go Ordering.eq h = into_eq k' d n q (eq_l m n) (eq_l→ m n)
         go Ordering.gt h = ap (λ t. add (mul (lit d) (ev_m n)) t) h ∙ add_left_comm R (mul (lit d) (ev_m n)) (add (mul (lit c) (ev_m m)) s) (ev_p q)
 
   add_p_ev : (p q : List (Term K)) → ev_p (add_p κ p q) ≡ add (ev_p p) (ev_p q)

@@ -13,7 +13,7 @@ use Rattle.paper.specs.declared.Part.{Part}
 use Rattle.paper.specs.declared.Lent.TheVariants.{NetworkBytes}
 use Rattle.paper.specs.Bytes.{part}
 use Rattle.paper.specs.Answer.{verdict, written}
-use Rattle.paper.proofs.Compare.{same_list, sameList→, same_num, sameNum→, same_answer, sameAnswer→}
+use Rattle.paper.proofs.Compare.{same_list, same_list→, same_num, same_num→, same_answer, same_answer→}
 
 -- what stands in the buffer from a place on
 pub data Reading : Type 0 where
@@ -69,13 +69,13 @@ reads→ : (buffer : List ℤ) (rs : List Reading) → T (reads? buffer rs) → 
 reads→ buffer [] t = tt
 reads→ buffer (at place xs ∷ more) t =
     let h = both_t (same_list (take (length xs) (drop place buffer)) xs) (reads? buffer more) t in
-    (sameList→ (take (length xs) (drop place buffer)) xs h.0, reads→ buffer more h.1)
+    (same_list→ (take (length xs) (drop place buffer)) xs h.0, reads→ buffer more h.1)
 
 says→ : (c : Figure) → T (says? c) → Says c
-says→ (same a b) t = sameNum→ a b t
+says→ (same a b) t = same_num→ a b t
 says→ (call net flt room a rs) t =
     let h = both_t (same_answer (verdict net flt room) a) (reads? (written net flt (old room)) rs) t in
-    (sameAnswer→ (verdict net flt room) a h.0, reads→ (written net flt (old room)) rs h.1)
+    (same_answer→ (verdict net flt room) a h.0, reads→ (written net flt (old room)) rs h.1)
 
 pub all→ : (cs : List Figure) → T (all? cs) → All cs
 all→ [] t = tt

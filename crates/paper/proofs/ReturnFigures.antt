@@ -15,7 +15,7 @@ use Rattle.paper.specs.Kind.{ohms}
 use Rattle.paper.specs.Answer.{paper}
 use Rattle.paper.specs.Return.{Said, earth_return_from, none_stopped_at, refused_by, earth_said, return_open}
 use Rattle.paper.proofs.Typed.{head, label, bd, typed_open}
-use Rattle.paper.proofs.Compare.{same_said, sameSaid→}
+use Rattle.paper.proofs.Compare.{same_said, same_said→}
 use Rattle.paper.proofs.Figures.{j, records, gen, booth, hall, star, under, block, beyond, behind, bare, lost, net3}
 use Rattle.paper.proofs.UnearthedFigures.{below, side}
 
@@ -33,7 +33,7 @@ all? (asks net l s ∷ rows) = same_said (earth_said net l) s && all? rows
 
 all→ : (rows : List Row) → T (all? rows) → All rows
 all→ [] t = tt
-all→ (asks net l s ∷ rows) t = let h = both_t (same_said (earth_said net l) s) (all? rows) t in (sameSaid→ (earth_said net l) s h.0, all→ rows h.1)
+all→ (asks net l s ∷ rows) t = let h = both_t (same_said (earth_said net l) s) (all? rows) t in (same_said→ (earth_said net l) s h.0, all→ rows h.1)
 
 -- ---- the records that the other figures do not have
 -- a second transformer that blocks, behind the first; one behind 01's HALL; cables behind these and behind BEYOND

@@ -15,7 +15,7 @@ use Rattle.paper.specs.Chain.{Boards}
 use Rattle.paper.specs.Refusal.{no_part}
 use Rattle.paper.specs.Answer.{paper}
 use Rattle.paper.specs.Write.{write_verdict, write_leaves, write_open}
-use Rattle.paper.proofs.Compare.{sameBytes→, same_written, sameWritten→}
+use Rattle.paper.proofs.Compare.{same_bytes→, same_written, same_written→}
 use Rattle.paper.proofs.Typed.{head, bd, board, typed_open}
 
 -- ---- a row: volts, unit, boards and a buffer of so many sevens; the answer, and the buffer afterwards
@@ -54,7 +54,7 @@ all? (f ∷ fs) = says? f && all? fs
 says→ : (f : Figure) → T (says? f) → Says f
 says→ (write v u bs room w later) t =
     let h = both_t (same_written (write_verdict v u bs room) w) (same_bytes (write_leaves v u bs (sevens room)) later) t in
-    (sameWritten→ (write_verdict v u bs room) w h.0, sameBytes→ (write_leaves v u bs (sevens room)) later h.1)
+    (same_written→ (write_verdict v u bs room) w h.0, same_bytes→ (write_leaves v u bs (sevens room)) later h.1)
 
 all→ : (fs : List Figure) → T (all? fs) → All fs
 all→ [] t = tt

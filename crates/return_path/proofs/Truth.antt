@@ -16,7 +16,7 @@ use Rattle.paper.specs.Answer.{paper}
 use Rattle.paper.proofs.Typed.{label, typed_open}
 use Rattle.paper.proofs.Figures.{records, net3}
 use Rattle.paper.proofs.ReturnFigures.{floating}
-use Rattle.paper.proofs.Compare.{sameSaid→}
+use Rattle.paper.proofs.Compare.{same_said→}
 use Rattle.follows.proofs.Lists.{On}
 use Rattle.follows.proofs.Places.{place_most}
 use Rattle.follows.proofs.Paths.{on_own}
@@ -145,8 +145,8 @@ cured =
     record {
       as_many = refl;
       rest_kept = kept;
-      had_none = (1, sameSaid→ (earth_said floating west) (none_stopped_at 1) tt);
-      has_one = (1, sameSaid→ (earth_said net3 west) (earth_return_from 1) tt);
+      had_none = (1, same_said→ (earth_said floating west) (none_stopped_at 1) tt);
+      has_one = (1, same_said→ (earth_said net3 west) (earth_return_from 1) tt);
     }
   where
     -- 1 and 2 are on the chain, 3 is the hall

@@ -7,7 +7,7 @@ use lib.IntN.{ℤ, neg_ℤ, ◌+ℤ◌, ◌-ℤ◌, ◌*ℤ◌}
 use Rattle.lemmas.proofs.Solver.{var, ◌⊕◌, ◌⊗◌, ◌⊖◌, ⊝◌}
 use Rattle.turn.specs.declared.Num.{Num}
 use Rattle.turn.specs.Number.{whole_n, complex_n, ◌+N◌, neg_n, ◌·N◌, ◌*N◌, times_t, power_n, turn_n, conj_n, square_n}
-use Rattle.turn.proofs.Form.{Form, add_f, neg_f, timesTF, sum_f, mul_f, con_f, whole_f, complex_f, ring_f, by_coordinates}
+use Rattle.turn.proofs.Form.{Form, add_f, neg_f, times_t_f, sum_f, mul_f, con_f, whole_f, complex_f, ring_f, by_coordinates}
 use Rattle.turn.proofs.Powers.{times_t_lem, power_add, turn_zero, turn_suc}
 
 abbrev pub conj_f : Form → Form
@@ -42,7 +42,7 @@ conj_power (suc n) =
 -- a turn keeps the absolute value
 times_absolute : (a : Num) → times_t a *N conj_n (times_t a) ≡ a *N conj_n a
 unfolding conj_n ◌*N◌ ◌+N◌ ◌·N◌ power_n times_t
-times_absolute = by_coordinates 1 (λ a. mul_f (timesTF a) (conj_f (timesTF a))) (λ a. mul_f a (conj_f a)) tt
+times_absolute = by_coordinates 1 (λ a. mul_f (times_t_f a) (conj_f (times_t_f a))) (λ a. mul_f a (conj_f a)) tt
 
 pub turn_absolute : (n : ℕ) (a : Num) → turn_n n a *N conj_n (turn_n n a) ≡ a *N conj_n a
 turn_absolute zero a = ap (λ (b : Num). b *N conj_n b) (turn_zero a)

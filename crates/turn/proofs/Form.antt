@@ -29,15 +29,15 @@ neg_f a = record { f0 = ⊝ a.f0; f1 = ⊝ a.f1; f2 = ⊝ a.f2; f3 = ⊝ a.f3 }
 abbrev pub scale_f : E ℤ → Form → Form
 scale_f n a = record { f0 = n ⊗ a.f0; f1 = n ⊗ a.f1; f2 = n ⊗ a.f2; f3 = n ⊗ a.f3 }
 
-abbrev pub timesTF : Form → Form
-timesTF a = record { f0 = ⊝ a.f3; f1 = a.f0; f2 = a.f1 ⊕ a.f3; f3 = a.f2 }
+abbrev pub times_t_f : Form → Form
+times_t_f a = record { f0 = ⊝ a.f3; f1 = a.f0; f2 = a.f1 ⊕ a.f3; f3 = a.f2 }
 
 -- p t⁰ .. s, a sum of multiples
 abbrev pub sum_f : Form → Form → Form → Form → Form → Form
 sum_f a p q r s = add_f (add_f (add_f (scale_f a.f0 p) (scale_f a.f1 q)) (scale_f a.f2 r)) (scale_f a.f3 s)
 
 abbrev pub mul_f : Form → Form → Form
-mul_f a b = sum_f a b (timesTF b) (timesTF (timesTF b)) (timesTF (timesTF (timesTF b)))
+mul_f a b = sum_f a b (times_t_f b) (times_t_f (times_t_f b)) (times_t_f (times_t_f (times_t_f b)))
 
 -- a known number, a whole number, R + jX
 abbrev pub con_f : Num → Form

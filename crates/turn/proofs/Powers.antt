@@ -5,13 +5,13 @@ use native.Mathlib.Nat.{add-suc, suc-add, zero-add, add_assoc, add_comm, suc-mul
 use lib.IntN.{pos}
 use Rattle.turn.specs.declared.Num.{Num}
 use Rattle.turn.specs.Number.{whole_n, ◌+N◌, neg_n, ◌-N◌, ◌·N◌, ◌*N◌, times_t, power_n, turn_n, one_n, j_n, a2_n}
-use Rattle.turn.proofs.Form.{timesTF, mul_f, by_coordinates}
+use Rattle.turn.proofs.Form.{times_t_f, mul_f, by_coordinates}
 use Rattle.turn.proofs.Ring.{*N_assoc, *N_one}
 
 -- t times a product
 pub times_mul : (a b : Num) → times_t a *N b ≡ times_t (a *N b)
 unfolding ◌*N◌ ◌+N◌ ◌·N◌ times_t
-times_mul = by_coordinates 2 (λ a b. mul_f (timesTF a) b) (λ a b. timesTF (mul_f a b)) tt
+times_mul = by_coordinates 2 (λ a b. mul_f (times_t_f a) b) (λ a b. times_t_f (mul_f a b)) tt
 
 pub times_t_lem : (a : Num) → power_n 1 *N a ≡ times_t a
 unfolding power_n

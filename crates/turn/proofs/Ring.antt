@@ -2,7 +2,7 @@
 use mathlib.Core.Path.{◌≡◌, refl, ap}
 use mathlib.Core.List.{[], ◌∷◌}
 use lib.IntN.{ℤ, pos, neg_ℤ, ◌+ℤ◌, ◌*ℤ◌}
-use Rattle.lemmas.proofs.Ring.{CRing, ℤcoef, isZero→}
+use Rattle.lemmas.proofs.Ring.{CRing, ℤcoef, is_zero→}
 use Rattle.lemmas.proofs.Solver.{var, con, ◌⊕◌, ◌⊗◌, ⊝◌}
 use Rattle.turn.specs.declared.Num.{Num}
 use Rattle.turn.specs.Number.{whole_n, ◌+N◌, neg_n, ◌·N◌, ◌*N◌, times_t}
@@ -77,7 +77,7 @@ Nring =
       mul_comm = *N_comm;
       mul_uni = *N_one;
       distr = *N_distr;
-      lit_zer = λ x t. ap whole_n (isZero→ x t);
+      lit_zer = λ x t. ap whole_n (is_zero→ x t);
       lit_uni = refl;
       lit_add = whole_add;
       lit_mul = whole_mul;

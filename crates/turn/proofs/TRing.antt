@@ -5,7 +5,7 @@ use mathlib.Core.Bool.{Bool, ◌&&◌}
 use mathlib.Core.List.{[]}
 use lib.Dec.{T}
 use lib.IntN.{pos}
-use Rattle.lemmas.proofs.Ring.{Coef, CRing, is_zero, isZero→}
+use Rattle.lemmas.proofs.Ring.{Coef, CRing, is_zero, is_zero→}
 use Rattle.turn.specs.declared.Num.{Num}
 use Rattle.turn.specs.Number.{whole_n, ◌+N◌, neg_n, ◌·N◌, ◌*N◌, times_t}
 use Rattle.turn.proofs.Form.{add_f, neg_f, mul_f, con_f, ev_f, four, alike}
@@ -14,10 +14,10 @@ use Rattle.turn.proofs.Ring.{+N_assoc, +N_comm, +N_zero, +N_neg, *N_assoc, *N_co
 abbrev is_zero_n : Num → Bool
 is_zero_n a = is_zero a.x0 && (is_zero a.x1 && (is_zero a.x2 && is_zero a.x3))
 
-pub isZeroN→ : (a : Num) → T (is_zero_n a) → a ≡ whole_n (pos 0)
-isZeroN→ a t =
+pub is_zero_n→ : (a : Num) → T (is_zero_n a) → a ≡ whole_n (pos 0)
+is_zero_n→ a t =
     let s = four (is_zero a.x0) (is_zero a.x1) (is_zero a.x2) (is_zero a.x3) t in
-    alike (isZero→ a.x0 s.0) (isZero→ a.x1 s.1) (isZero→ a.x2 s.2) (isZero→ a.x3 s.3)
+    alike (is_zero→ a.x0 s.0) (is_zero→ a.x1 s.1) (is_zero→ a.x2 s.2) (is_zero→ a.x3 s.3)
 
 -- the operations, open for computing
 abbrev pub Ncoef : Coef
@@ -61,7 +61,7 @@ Tring =
       mul_comm = *N_comm;
       mul_uni = *N_one;
       distr = *N_distr;
-      lit_zer = isZeroN→;
+      lit_zer = is_zero_n→;
       lit_uni = refl;
       lit_add = is_add;
       lit_mul = is_mul;
