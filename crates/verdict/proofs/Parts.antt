@@ -11,12 +11,12 @@ use Rattle.paper.specs.declared.Part.{Part}
 use Rattle.paper.specs.Bytes.{cut}
 use Rattle.verdict.specs.Shown.{lent, shown_bytes, Within, IsPart}
 
--- `&s[a..a + n]`, under some ghost name
-abbrev slice : Bor (List ℕ) → ℕ → ℕ → ℕ → Bor (List ℕ)
-slice s a n γ = record { ref_ptr = (s.ref_ptr.0, a + s.ref_ptr.1); ghost_name = γ; now = take (a + n - a) (drop a s.now) }
+-- `&s[a..a + n]`
+abbrev slice : Bor (List ℕ) → ℕ → ℕ → Bor (List ℕ)
+slice s a n = record { ref_ptr = (s.ref_ptr.0, a + s.ref_ptr.1); now = take (a + n - a) (drop a s.now) }
 
-slice_is : (s : Bor (List ℕ)) (a n γ : ℕ) → IsPart s a n (slice s a n γ)
-slice_is s a n γ =
+slice_is : (s : Bor (List ℕ)) (a n : ℕ) → IsPart s a n (slice s a n)
+slice_is s a n =
     let e : a + n - a ≡ n = omega arith in
     record { bytes = ap (λ (m : ℕ). take m (drop a s.now)) e; block = refl; offset = omega arith }
 
@@ -33,8 +33,8 @@ module _ (p : Part) (net flt : Bor (List ℕ)) (w : Lent) (h : p.whose ≡ w) wh
   pub lent_end : Within p net.now flt.now → p.start + p.len ≤ length (lent w net.now flt.now)
   lent_end fits = subst (λ (v : Lent). p.start + p.len ≤ length (lent v net.now flt.now)) h fits
 
-  pub lent_part : (γ : ℕ) → IsPart (lent p.whose net flt) p.start p.len (slice (lent w net flt) p.start p.len γ)
-  lent_part γ = subst (λ (v : Lent). IsPart (lent v net flt) p.start p.len (slice (lent w net flt) p.start p.len γ)) (sym h) (slice_is (lent w net flt) p.start p.len γ)
+  pub lent_part : IsPart (lent p.whose net flt) p.start p.len (slice (lent w net flt) p.start p.len)
+  lent_part = subst (λ (v : Lent). IsPart (lent v net flt) p.start p.len (slice (lent w net flt) p.start p.len)) (sym h) (slice_is (lent w net flt) p.start p.len)
 
 -- the bytes, for a caller that has lists
 pub lent_bytes : (w : Lent) (net flt : Bor (List ℕ)) {a n : ℕ} {r : Bor (List ℕ)} → IsPart (lent w net flt) a n r → r.now ≡ cut (lent w net.now flt.now) a n

@@ -1,5 +1,6 @@
 // What a call returns, made of a refusal or of what was answered; and the record that it speaks of, shown in the bytes that it came in.
 #![tactic(auto)]
+
 pub mod said;
 pub mod shown;
 

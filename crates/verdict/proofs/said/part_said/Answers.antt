@@ -4,17 +4,14 @@ use Rattle.paper.specs.Return.{said}
 use Rattle.verdict.specs.Said.{part_said}
 use Rattle.verdict.proofs.said.part_said.Goals as goal
 
--- TODO look
 pub returns-in-From : goal.returns-in-From
 unfolding said
-returns-in-From c = ap (λ (x : EarthReturn). part_said (said x).shown) (sym c.enum_told-1.given.1)
+returns-in-From c = ap (λ (x : EarthReturn). part_said (said x).shown) (sym c.in-From.is)
 
--- TODO look
 pub returns-in-Stopped : goal.returns-in-Stopped
 unfolding said
-returns-in-Stopped c = ap (λ (x : EarthReturn). part_said (said x).shown) (sym c.enum_told-in-Stopped-1.given.1)
+returns-in-Stopped c = ap (λ (x : EarthReturn). part_said (said x).shown) (sym c.in-Stopped.is)
 
--- TODO look
 pub returns-in-Refused : goal.returns-in-Refused
 unfolding said
-returns-in-Refused c = ap (λ (x : EarthReturn). part_said (said x).shown) (sym c.given-1.given.1)
+returns-in-Refused c = ap (λ (x : EarthReturn). part_said (said x).shown) (sym c.in-Refused.is)
