@@ -1,5 +1,6 @@
 // A fault's bytes, asked of an accepted network in which its label was looked for: accepted with its board's place, or refused by the first rule of 12 to 19 that is broken.
 #![tactic(auto)]
+
 pub mod question;
 mod rules;
 
