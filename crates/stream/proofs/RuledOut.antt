@@ -7,7 +7,7 @@ use lib.IntN.{ℤ, pos}
 use lib.ListN.{length, get_or, replicate}
 use base.Fml.{Lft}
 use denote.Ref.{Bor}
-use Rattle.lemmas.proofs.RuledOut.{◌↛◌, RuledOut, ever, ends, by, by_equation, list, wholes, lent}
+use Rattle.lemmas.proofs.RuledOut.{◌↛◌, RuledOut, ever, ends, by, by_equation, list, wholes, lent, lent_out}
 use Rattle.lemmas.specs.Table.{tab}
 use Rattle.lemmas.specs.Little.{little}
 use Rattle.decimal.specs.Word.{word_of}
@@ -49,8 +49,8 @@ answer = record { amps = 4; part = part FaultBytes 5 4; place = 2; n = 3; number
 abbrev shown : Bor (List ℕ)
 shown = lent (fours (9 ∷ []))
 
-abbrev numbers : ℕ → ℕ → Bor (List ℤ)
-numbers m n = lent (pos m ∷ pos n ∷ [])
+abbrev numbers : ℕ → ℕ → List ℤ
+numbers m n = pos m ∷ pos n ∷ []
 
 -- of a file of one byte in an output of two
 abbrev written : Written
@@ -96,16 +96,16 @@ module _ (κ : Lft) where
       ((refl, omega arith), ((refl, omega arith), ((refl, omega arith), tt))) tt
 
   pub mark_not : RuledOut (mark.Pre (κ, tt)) (ends (mark.Post (κ, tt))) (
-      (numbers 7 7, tt) ↛ (tt, (numbers 0 1000003, tt))  -- marks_from_0
-      ∷ (numbers 7 7, tt) ↛ (tt, (numbers 2000006 3000009, tt))  -- first_element_unmarked
+      (lent_out (numbers 7 7), tt) ↛ (tt, (lent_out (numbers 0 1000003), tt))  -- marks_from_0
+      ∷ (lent_out (numbers 7 7), tt) ↛ (tt, (lent_out (numbers 2000006 3000009), tt))  -- first_element_unmarked
       ∷ [])
   unfolding marks
   mark_not = by (λ z. wholes z.1.0.now) (λ a. wholes (marks (length a.0.now))) (λ a z s i. wholes (s i)) (omega arith, (omega arith, tt)) tt
 
   pub mark_bytes_not : RuledOut (mark-bytes.Pre (κ, tt)) (ends (mark-bytes.Post (κ, tt))) (
-      (lent (9 ∷ 9 ∷ []), tt) ↛ (tt, (lent (10 ∷ 17 ∷ []), tt))  -- byte_marks_from_1
-      ∷ (lent (9 ∷ 9 ∷ []), tt) ↛ (tt, (lent (3 ∷ 9 ∷ []), tt))  -- last_byte_unmarked
-      ∷ (lent (9 ∷ 9 ∷ []), tt) ↛ (tt, (lent (3 ∷ 3 ∷ []), tt))  -- all_bytes_alike
+      (lent_out (9 ∷ 9 ∷ []), tt) ↛ (tt, (lent_out (10 ∷ 17 ∷ []), tt))  -- byte_marks_from_1
+      ∷ (lent_out (9 ∷ 9 ∷ []), tt) ↛ (tt, (lent_out (3 ∷ 9 ∷ []), tt))  -- last_byte_unmarked
+      ∷ (lent_out (9 ∷ 9 ∷ []), tt) ↛ (tt, (lent_out (3 ∷ 3 ∷ []), tt))  -- all_bytes_alike
       ∷ [])
   unfolding byte_marks
   mark_bytes_not = by (λ z. list z.1.0.now) (λ a. list (byte_marks (length a.0.now))) (λ a z s i. list (s i)) (tt, (tt, (tt, tt))) tt
@@ -133,11 +133,11 @@ module _ (κ κ' : Lft) where
 
 module _ (κ κ' κ'' : Lft) where
   pub put_answer_not : RuledOut (put-answer.Pre (κ, (κ', (κ'', tt)))) (leaves (put-answer.Post (κ, (κ', (κ'', tt))))) (
-      (dots 56, (0, (answer, (shown, (numbers 7 8, tt))))) ↛ (56, fours (2 ∷ 2 ∷ 3 ∷ 4 ∷ 0 ∷ 2 ∷ 5 ∷ 4 ∷ 9 ∷ 2 ∷ 7 ∷ 0 ∷ 8 ∷ 0 ∷ []))  -- place_for_number
-      ∷ (dots 56, (0, (answer, (shown, (numbers 7 8, tt))))) ↛ (56, fours (1 ∷ 2 ∷ 3 ∷ 4 ∷ 0 ∷ 1 ∷ 5 ∷ 4 ∷ 9 ∷ 2 ∷ 7 ∷ 0 ∷ 8 ∷ 0 ∷ []))  -- always_the_network
-      ∷ (dots 56, (0, (answer, (shown, (numbers 7 8, tt))))) ↛ (52, fours (1 ∷ 2 ∷ 3 ∷ 4 ∷ 0 ∷ 2 ∷ 5 ∷ 4 ∷ 2 ∷ 7 ∷ 0 ∷ 8 ∷ 0 ∷ []) ++ replicate 4 46)  -- part_left_out
-      ∷ (dots 56, (0, (answer, (shown, (numbers 7 8, tt))))) ↛ (56, fours (1 ∷ 2 ∷ 3 ∷ 4 ∷ 0 ∷ 2 ∷ 5 ∷ 4 ∷ 2 ∷ 7 ∷ 0 ∷ 8 ∷ 0 ∷ 9 ∷ []))  -- part_behind_the_elements
-      ∷ (dots 56, (0, (answer, (shown, (numbers 7 8, tt))))) ↛ (48, fours (1 ∷ 2 ∷ 3 ∷ 4 ∷ 0 ∷ 2 ∷ 5 ∷ 4 ∷ 9 ∷ 2 ∷ 8 ∷ 0 ∷ []) ++ replicate 8 46)  -- elements_on_top
+      (dots 56, (0, (answer, (shown, (lent (numbers 7 8), tt))))) ↛ (56, fours (2 ∷ 2 ∷ 3 ∷ 4 ∷ 0 ∷ 2 ∷ 5 ∷ 4 ∷ 9 ∷ 2 ∷ 7 ∷ 0 ∷ 8 ∷ 0 ∷ []))  -- place_for_number
+      ∷ (dots 56, (0, (answer, (shown, (lent (numbers 7 8), tt))))) ↛ (56, fours (1 ∷ 2 ∷ 3 ∷ 4 ∷ 0 ∷ 1 ∷ 5 ∷ 4 ∷ 9 ∷ 2 ∷ 7 ∷ 0 ∷ 8 ∷ 0 ∷ []))  -- always_the_network
+      ∷ (dots 56, (0, (answer, (shown, (lent (numbers 7 8), tt))))) ↛ (52, fours (1 ∷ 2 ∷ 3 ∷ 4 ∷ 0 ∷ 2 ∷ 5 ∷ 4 ∷ 2 ∷ 7 ∷ 0 ∷ 8 ∷ 0 ∷ []) ++ replicate 4 46)  -- part_left_out
+      ∷ (dots 56, (0, (answer, (shown, (lent (numbers 7 8), tt))))) ↛ (56, fours (1 ∷ 2 ∷ 3 ∷ 4 ∷ 0 ∷ 2 ∷ 5 ∷ 4 ∷ 2 ∷ 7 ∷ 0 ∷ 8 ∷ 0 ∷ 9 ∷ []))  -- part_behind_the_elements
+      ∷ (dots 56, (0, (answer, (shown, (lent (numbers 7 8), tt))))) ↛ (48, fours (1 ∷ 2 ∷ 3 ∷ 4 ∷ 0 ∷ 2 ∷ 5 ∷ 4 ∷ 9 ∷ 2 ∷ 8 ∷ 0 ∷ []) ++ replicate 8 46)  -- elements_on_top
       ∷ [])
   unfolding bytes_of head_of found_of part_of whose_of three_of elements_of little word_of
   put_answer_not = by_room (λ b. bytes_of b.0 b.1.0.now b.1.1.0.now) tt tt
