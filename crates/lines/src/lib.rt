@@ -1,5 +1,6 @@
 // The lines of an answer, written into a lent buffer: a refusal's, the fault's, those of three phases; in the modules labels, the lines of the boards, and the line about an earth return.
 #![tactic(auto)]
+
 pub mod boards;
 pub mod earthed;
 mod name;

@@ -1,5 +1,6 @@
 // The printed answer, written into a lent buffer. Each function writes its text from a place on and returns the place behind it.
 #![tactic(auto)]
+
 ghost use Rattle.std.specs.Prelude.{◌≡◌, ◌≤◌, length};
 ghost use Rattle.decimal.specs.Wrote.{Room, Wrote};
 ghost use Rattle.paper.specs.File.{fault_of};
