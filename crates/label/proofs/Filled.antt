@@ -1,4 +1,4 @@
--- What a loop over the boards has filled in after i of them. No logic. Assumes nothing.
+-- What a loop over the boards has filled in after i of them. Assumes nothing.
 use Rattle.std.proofs.Common.{◌≡◌, ℕ, zero, suc, ◌<◌, ◌≤◌, List, [], ◌∷◌, map, length, get_or, take, set, replicate, sym, refl, ap, ◌∙◌, le_of_suc-le-suc, not-suc-le-zero, arith}
 use lib.ListN.{length-map}
 use Rattle.paper.specs.declared.Board.{Board}

@@ -6,10 +6,5 @@ mod SpeltAt
 mod FoundIn
 pub mod PlacesLaws
 mod Filled
-pub mod Apart
-pub mod BoardTable
-mod PlacesNumbers
-pub mod Rest
-pub mod Front
-mod Calls
+mod Rest
 mod RuledOut

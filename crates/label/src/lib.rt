@@ -1,6 +1,7 @@
 // Labels: whether two are the same bytes, and in the modules their capitals, their form (6) and where one first stands among the boards.
 // Whoever looks for labels calls `places::places_in`: it alone knows that they are compared in capitals.
 #![tactic(auto)]
+
 pub mod case;
 pub mod formed;
 pub mod places;

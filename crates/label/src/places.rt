@@ -40,7 +40,7 @@ pub(crate) fn find_all(boards: &[Board]) -> Places
     Places { own, fed }
 }
 
-// Of the first n boards of a table. Whoever calls this needs no walk.
+// Of the first n boards of a table.
 pub(crate) fn lookup_all(table: [Board; 256], n: usize) -> Places
     requires { n ≤ 256 }
     ensures { result ≡ places_with spelt_at (take n table) }

@@ -32,7 +32,7 @@ pub(crate) fn find(boards: &[Board], label: [u8; 12]) -> usize
     i + 1
 }
 
-// Of the first n boards of a table. Whoever calls this needs no walk.
+// Of the first n boards of a table.
 pub(crate) fn lookup(table: [Board; 256], n: usize, label: [u8; 12]) -> usize
     requires { n ≤ 256 }
     ensures { result ≡ spelt_at label (take n table) }
