@@ -17,8 +17,8 @@ pub(crate) fn num_of(z: Ohms) -> Num
 
 // G = Z0 + 3Zf, whatever Z1 and Z2 are.
 pub(crate) fn earthed(z0: Ohms, zf: Ohms) -> Num
-    requires at_most { AtMost 4095 z0 }
-    requires at_most_2 { AtMost 1365 zf }
+    requires z0_at_most { AtMost 4095 z0 }
+    requires zf_at_most { AtMost 1365 zf }
     ensures { (Z1 Z2 : Num) → result ≡ G Z1 Z2 (num_of z0) (num_of zf) }
 {
     let f = num_of(zf);
@@ -27,10 +27,10 @@ pub(crate) fn earthed(z0: Ohms, zf: Ohms) -> Num
 
 // Δ = Z1.Z2 + Z1.G + Z2.G.
 fn delta(z1: Ohms, z2: Ohms, z0: Ohms, zf: Ohms) -> Num
-    requires at_most { AtMost 4095 z1 }
-    requires at_most_2 { AtMost 4095 z2 }
-    requires at_most_3 { AtMost 4095 z0 }
-    requires at_most_4 { AtMost 1365 zf }
+    requires z1_at_most { AtMost 4095 z1 }
+    requires z2_at_most { AtMost 4095 z2 }
+    requires z0_at_most { AtMost 4095 z0 }
+    requires zf_at_most { AtMost 1365 zf }
     ensures { result ≡ Δ (num_of z1) (num_of z2) (num_of z0) (num_of zf) }
 {
     let a = num_of(z1);
@@ -41,10 +41,10 @@ fn delta(z1: Ohms, z2: Ohms, z0: Ohms, zf: Ohms) -> Num
 
 // What the currents of a fault are divided by.
 pub(crate) fn divisor(z1: Ohms, z2: Ohms, z0: Ohms, zf: Ohms, kind: u8) -> Num
-    requires at_most { AtMost 4095 z1 }
-    requires at_most_2 { AtMost 4095 z2 }
-    requires at_most_3 { AtMost 4095 z0 }
-    requires at_most_4 { AtMost 1365 zf }
+    requires z1_at_most { AtMost 4095 z1 }
+    requires z2_at_most { AtMost 4095 z2 }
+    requires z0_at_most { AtMost 4095 z0 }
+    requires zf_at_most { AtMost 1365 zf }
     ensures { result ≡ (short_of (num_of z1) (num_of z2) (num_of z0) (num_of zf) false kind).divisor }
 {
     let a = num_of(z1);

@@ -1,6 +1,7 @@
 // The four faults at a board: D, the currents over it, and what W0 is lifted by; in the modules what they are divided by, what is different without earth return, and the voltages that they leave
 // at a board.
 #![tactic(auto)]
+
 mod divisor;
 mod unearthed;
 pub mod volts;
@@ -36,9 +37,9 @@ pub(crate) fn seq(s1: Num, s2: Num, s0: Num) -> Seq
 
 // I1, I2 and I0 above the line, where there is an earth return, whatever Z1 is.
 fn above(z2: Ohms, z0: Ohms, zf: Ohms, kind: u8) -> Seq
-    requires at_most { AtMost 4095 z2 }
-    requires at_most_2 { AtMost 4095 z0 }
-    requires at_most_3 { AtMost 1365 zf }
+    requires z2_at_most { AtMost 4095 z2 }
+    requires z0_at_most { AtMost 4095 z0 }
+    requires zf_at_most { AtMost 1365 zf }
     ensures { (Z1 : Num) → result ≡ (short_of Z1 (num_of z2) (num_of z0) (num_of zf) false kind).above }
 {
     let one = Num::ONE;
@@ -58,8 +59,8 @@ fn above(z2: Ohms, z0: Ohms, zf: Ohms, kind: u8) -> Seq
 
 // The currents over D: what stands above the line times the divisor's conjugate.
 fn currents(n: Num, a: Seq) -> Seq
-    requires addable { Addable n }
-    requires each_seq { EachSeq (λ x. Factors x (conj_n n)) a }
+    requires n_addable { Addable n }
+    requires a_factors { EachSeq (λ x. Factors x (conj_n n)) a }
     ensures { result ≡ currents (record { divisor = n; above = a }) }
 {
     let c = conj(n);
@@ -71,10 +72,10 @@ fn currents(n: Num, a: Seq) -> Seq
 
 // The fault of a kind at a board with an earth return or without: D is the square of the divisor's absolute value.
 pub fn short(z1: Ohms, z2: Ohms, z0: Ohms, zf: Ohms, kind: u8, earthed: bool) -> Shorted
-    requires at_most { AtMost 4095 z1 }
-    requires at_most_2 { AtMost 4095 z2 }
-    requires at_most_3 { AtMost 4095 z0 }
-    requires at_most_4 { AtMost 1365 zf }
+    requires z1_at_most { AtMost 4095 z1 }
+    requires z2_at_most { AtMost 4095 z2 }
+    requires z0_at_most { AtMost 4095 z0 }
+    requires zf_at_most { AtMost 1365 zf }
     ensures { result ≡ shorted_of z1 z2 z0 zf kind earthed }
 {
     let k = kind_at(kind, earthed);

@@ -39,9 +39,9 @@ pub(crate) fn zf_at(zf: Ohms, kind: u8, earthed: bool) -> Ohms
 
 // What W0 is lifted by at the faulted board and the boards joined to it. A fault to earth holds its own phases at earth; without earth return nothing holds the others back, so all three move with them.
 pub(crate) fn lift(d: i64, z1: Ohms, i1: Num, kind: u8, earthed: bool) -> Num
-    requires small { Small most_d d }
-    requires at_most { AtMost 4095 z1 }
-    requires plane { Plane most_i i1 }
+    requires d_small { Small most_d d }
+    requires z1_at_most { AtMost 4095 z1 }
+    requires i1_plane { Plane most_i i1 }
     ensures { result ≡ only_if (not earthed) (lift_of kind (whole_n d -N num_of z1 *N i1)) }
 {
     if earthed {

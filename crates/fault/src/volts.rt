@@ -15,8 +15,8 @@ use turn::Num;
 
 // An impedance times a sequence current.
 fn drop(z: Ohms, i: Num) -> Num
-    requires at_most { AtMost 4095 z }
-    requires plane { Plane most_i i }
+    requires z_at_most { AtMost 4095 z }
+    requires i_plane { Plane most_i i }
     ensures { result ≡ num_of z *N i }
 {
     mul(num_of(z), i)
@@ -24,9 +24,9 @@ fn drop(z: Ohms, i: Num) -> Num
 
 // W1, over D, of a board that shares za with the faulted one.
 pub(crate) fn first(d: i64, za: Ohms, i1: Num) -> Num
-    requires small { Small most_d d }
-    requires at_most { AtMost 4095 za }
-    requires plane { Plane most_i i1 }
+    requires d_small { Small most_d d }
+    requires za_at_most { AtMost 4095 za }
+    requires i1_plane { Plane most_i i1 }
     ensures { result ≡ whole_n d -N num_of za *N i1 }
 {
     sub(Num::whole(d), drop(za, i1))
@@ -34,12 +34,12 @@ pub(crate) fn first(d: i64, za: Ohms, i1: Num) -> Num
 
 // The referred voltages, over D, of a board that shares za, zb and zc with the faulted one, and whose W0 is lifted by `up`.
 pub fn voltage(d: i64, i: Seq, za: Ohms, zb: Ohms, zc: Ohms, up: Num) -> Seq
-    requires small { Small most_d d }
-    requires each_seq { EachSeq (Plane most_i) i }
-    requires at_most { AtMost 4095 za }
-    requires at_most_2 { AtMost 4095 zb }
-    requires at_most_3 { AtMost 4095 zc }
-    requires plane { Plane most_lift up }
+    requires d_small { Small most_d d }
+    requires i_plane { EachSeq (Plane most_i) i }
+    requires za_at_most { AtMost 4095 za }
+    requires zb_at_most { AtMost 4095 zb }
+    requires zc_at_most { AtMost 4095 zc }
+    requires up_plane { Plane most_lift up }
     ensures { result ≡ voltage_of d i za zb zc up }
 {
     let i1 = i.s1;
