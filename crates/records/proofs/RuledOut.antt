@@ -6,7 +6,7 @@ use Prim.Native.Nat.{ℕ}
 use lib.Dec.{T, leb, lit≤}
 use lib.ListN.{replicate, set}
 use base.Fml.{Lft}
-use Rattle.lemmas.proofs.RuledOut.{◌↛◌, RuledOut, ever, ends, by_parts, by_equation, bool, list, lists, lent}
+use Rattle.lemmas.proofs.RuledOut.{◌↛◌, RuledOut, ever, ends, by_parts, by_equation, bool, list, lists, lent, lent_out}
 use Rattle.paper.specs.declared.Ohms.{Ohms}
 use Rattle.paper.specs.declared.Board.{Board}
 use Rattle.paper.proofs.Told.{small}
@@ -154,12 +154,12 @@ verdict z = list (z.asked ∷ z.place ∷ z.number ∷ [])
 
 module _ (κ κ' : Lft) where
   pub judge_not : RuledOut (judge.Pre (κ, (κ', tt))) (ends (judge.Post (κ, (κ', tt)))) (
-      (lent net, (1, (nobody, (lent no_rows, tt)))) ↛ (judged 0 2 5, (lent net, (1, (nobody, (lent no_rows, tt)))))  -- counted_from_0
-      ∷ (lent net, (1, (nobody, (lent no_rows, tt)))) ↛ (judged 0 0 5, (lent net, (1, (nobody, (lent no_rows, tt)))))  -- place_from_0
-      ∷ (lent net, (1, (nobody, (lent no_rows, tt)))) ↛ (judged 1 1 5, (lent net, (1, (nobody, (lent no_rows, tt)))))  -- source_for_nobody
-      ∷ (lent net1, (1, (label "gen", (lent no_rows, tt)))) ↛ (judged 0 0 0, (lent net1, (1, (label "gen", (lent (set no_rows 0 source), tt)))))  -- asked_as_typed
-      ∷ (lent net1, (1, (nobody, (lent no_rows, tt)))) ↛ (judged 0 0 0, (lent net1, (1, (nobody, (lent no_rows, tt)))))  -- no_nodes_left
-      ∷ (lent net1, (1, (nobody, (lent no_rows, tt)))) ↛ (judged 0 0 0, (lent net1, (1, (nobody, (lent (set no_rows 1 source), tt)))))  -- node_one_row_on
+      (lent net, (1, (nobody, (lent_out no_rows, tt)))) ↛ (judged 0 2 5, (lent net, (1, (nobody, (lent_out no_rows, tt)))))  -- counted_from_0
+      ∷ (lent net, (1, (nobody, (lent_out no_rows, tt)))) ↛ (judged 0 0 5, (lent net, (1, (nobody, (lent_out no_rows, tt)))))  -- place_from_0
+      ∷ (lent net, (1, (nobody, (lent_out no_rows, tt)))) ↛ (judged 1 1 5, (lent net, (1, (nobody, (lent_out no_rows, tt)))))  -- source_for_nobody
+      ∷ (lent net1, (1, (label "gen", (lent_out no_rows, tt)))) ↛ (judged 0 0 0, (lent net1, (1, (label "gen", (lent_out (set no_rows 0 source), tt)))))  -- asked_as_typed
+      ∷ (lent net1, (1, (nobody, (lent_out no_rows, tt)))) ↛ (judged 0 0 0, (lent net1, (1, (nobody, (lent_out no_rows, tt)))))  -- no_nodes_left
+      ∷ (lent net1, (1, (nobody, (lent_out no_rows, tt)))) ↛ (judged 0 0 0, (lent net1, (1, (nobody, (lent_out (set no_rows 1 source), tt)))))  -- node_one_row_on
       ∷ [])
   unfolding judgement judged_by paper typed_open records nodes_in node_in row_of table nodes_from node_of start_of
   judge_not =

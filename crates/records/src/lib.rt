@@ -1,5 +1,6 @@
 // The records, judged in file order: "5 to 11 are all tried on one record before the next.", and 21 with them.
 #![tactic(auto)]
+
 mod rules;
 pub mod sums;
 
