@@ -3,9 +3,8 @@ use mathlib.Core.Bool.{Bool, true, false, not}
 use mathlib.Core.List.{List, [], ◌∷◌}
 use mathlib.Core.Option.{Option, none, some}
 use mathlib.Core.Path.{◌≡◌, refl, sym, ◌∙◌, ap}
-use Prim.Native.Nat.{ℕ, zero, suc, ◌+◌, ◌*◌, ◌≤◌, ◌<◌}
+use Prim.Native.Nat.{ℕ, ◌+◌, ◌*◌, ◌≤◌, ◌<◌}
 use native.Mathlib.Omega.{arith}
-use lib.Dec.{ltb, eqb}
 use lib.ListN.{length}
 use borrow.Author.Tests.{lt-ltb, le-ltb, eq-eqb, ne_eqb, ltb-false, not-false}
 use Rattle.lemmas.proofs.Bools.{same_by}
@@ -17,7 +16,7 @@ use Rattle.paper.specs.declared.Refusal.{Refusal}
 use Rattle.paper.specs.declared.Lent.TheVariants.{NetworkBytes}
 use Rattle.paper.specs.Bytes.{u16_at, part}
 use Rattle.paper.specs.Rows.{Row, row, first}
-use Rattle.paper.specs.File.{HD, head_of}
+use Rattle.paper.specs.File.{head_of}
 use Rattle.paper.specs.Refusal.{the_head, head_rows, head_ranges}
 use Rattle.network.specs.Network.{row_number, head_number}
 
@@ -62,13 +61,13 @@ module _ (len : ℕ) where
   short_rows false false false true e = absurd (omega arith)
   short_rows false false false false e = absurd (omega arith)
 
-  head_rows : (a b c d : Bool) (n : ℕ) → 1 < n → row_number (rows a b c d) ≡ n → first (rows a b c d) ≡ shown the_head n
+  head_rows_lem : (a b c d : Bool) (n : ℕ) → 1 < n → row_number (rows a b c d) ≡ n → first (rows a b c d) ≡ shown the_head n
   unfolding rows row_number first
-  head_rows true b c d n h e = absurd (omega arith)
-  head_rows false true c d n h e = ap (shown the_head) e
-  head_rows false false true d n h e = ap (shown the_head) e
-  head_rows false false false true n h e = ap (shown the_head) e
-  head_rows false false false false n h e = absurd (omega arith)
+  head_rows_lem true b c d n h e = absurd (omega arith)
+  head_rows_lem false true c d n h e = ap (shown the_head) e
+  head_rows_lem false false true d n h e = ap (shown the_head) e
+  head_rows_lem false false false true n h e = ap (shown the_head) e
+  head_rows_lem false false false false n h e = absurd (omega arith)
 
   no_rows : (a b c d : Bool) → row_number (rows a b c d) ≡ 0 → first (rows a b c d) ≡ none
   unfolding rows row_number first
@@ -85,7 +84,7 @@ module _ (s : List ℕ) where
 
   pub head_broken : (n : ℕ) → 1 < n → head_number s ≡ n → first (head_rows s) ≡ some (record { part = the_head; place = 0; number = n })
   unfolding head_number head_rows rows
-  head_broken n h e = head_rows (length s) _ _ _ _ n h e
+  head_broken n h e = head_rows_lem (length s) _ _ _ _ n h e
 
   pub head_kept : head_number s ≡ 0 → first (head_rows s) ≡ none
   unfolding head_number head_rows rows

@@ -4,8 +4,9 @@ use mathlib.Core.Path.{ap}
 use Prim.Native.Nat.{ℕ}
 use lib.ListN.{drop}
 use base.Fml.{Lft}
-use denote.Ref.{Bor}
-use Rattle.lemmas.proofs.RuledOut.{◌↛◌, RuledOut, ends, by_parts, list, lists, lent}
+use denote.Bor.{Bor}
+use denote.MutBor.{MutBor}
+use Rattle.lemmas.proofs.RuledOut.{◌↛◌, RuledOut, ends, by_parts, list, lists, lent, lent_out}
 use Rattle.paper.specs.declared.Outcome.{Outcome}
 use Rattle.paper.specs.declared.Outcome.TheVariants.{Accepted, Refused}
 use Rattle.paper.specs.declared.Lent.TheVariants.{NetworkBytes}
@@ -51,13 +52,13 @@ no_length = head 230 1000 3 ++ gen ++ booth ++ hall 2 0 (j 0) (j 0) (j 0) (j 0)
 
 -- ---- a call, and its answer with what is left in the rows
 abbrev Call : Type 0
-Call = Bor (List ℕ) × (Label × (Bor (List (List ℕ)) × Unit {0}))
+Call = Bor (List ℕ) × (Label × (MutBor (List (List ℕ)) × Unit {0}))
 
 abbrev asked : List ℕ → Label → Call
-asked net l = (lent net, (l, (lent no_rows, tt)))
+asked net l = (lent net, (l, (lent_out no_rows, tt)))
 
 abbrev leaves : List ℕ → Label → Network → List (List ℕ) → Network × Call
-leaves net l g rows = (g, (lent net, (l, (lent rows, tt))))
+leaves net l g rows = (g, (lent net, (l, (lent_out rows, tt))))
 
 abbrev filled : List ℕ → List (List ℕ)
 filled net = rows_of (table no_node (nodes_of (boards_of net)))

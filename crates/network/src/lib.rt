@@ -1,5 +1,6 @@
 // A network, read: accepted, with what each board gets from its chain in the rows that are lent and with where the board stands that is asked for, or refused by the first rule that its bytes break.
 #![tactic(auto)]
+
 ghost use Rattle.std.specs.Prelude.{◌≡◌, []};
 ghost use Rattle.std.proofs.Math.Option.{none};
 ghost use Rattle.paper.specs.Bytes.{part};
