@@ -1,7 +1,7 @@
 -- A signed word as the unsigned one with the same bits, by how far it is from 0. Assumes nothing.
 use mathlib.Core.Bool.{true, false, true≢false}
 use mathlib.Core.Path.{◌≡◌, refl, ap, ◌∙◌}
-use Prim.Native.Nat.{ℕ, ◌-◌, ◌≤◌}
+use Prim.Native.Nat.{ℕ, ◌-◌}
 use native.Mathlib.Omega.{arith}
 use lib.IntN.{ℤ, pos, negsuc, nat_abs}
 use lib.Signed.{lt_z}
@@ -13,10 +13,10 @@ use Rattle.lemmas.proofs.Words.{kept}
 use Rattle.decimal.specs.Word.{word_of}
 
 -- ---- as the code tests it
-down : (z : ℤ) → lt_z z (pos 0) ≡ true → (1 ≤ nat_abs z) × (18446744073709551615 - (nat_abs z - 1) ≡ word_of z)
+down : (z : ℤ) → lt_z z (pos 0) ≡ true → 18446744073709551615 - (nat_abs z - 1) ≡ word_of z
 unfolding word_of
 down (pos n) h = absurd (omega (arith, ltb-true n 0 h))
-down (negsuc n) h = (omega arith, omega arith)
+down (negsuc n) h = omega arith
 
 itself : (z : ℤ) → lt_z z (pos 0) ≡ false → nat_abs z ≡ word_of z
 unfolding word_of
@@ -28,10 +28,7 @@ module _ (z : ℤ) (f : SFits w64 z) {m : ℕ} (e : m ≡ nat_abs (kept z)) wher
   far = e ∙ ap nat_abs (to_z-of_z f)
 
   pub below_is : lt_z (kept z) (pos 0) ≡ true → 18446744073709551615 - (m - 1) ≡ word_of z
-  below_is h = ap (λ (n : ℕ). 18446744073709551615 - (n - 1)) far ∙ (down z (rw (to_z-of_z f) at h)).1
-
-  pub below_from : lt_z (kept z) (pos 0) ≡ true → 1 ≤ m
-  below_from h = omega (arith, far, (down z (rw (to_z-of_z f) at h)).0)
+  below_is h = ap (λ (n : ℕ). 18446744073709551615 - (n - 1)) far ∙ down z (rw (to_z-of_z f) at h)
 
   pub above_is : lt_z (kept z) (pos 0) ≡ false → m ≡ word_of z
   above_is h = far ∙ itself z (rw (to_z-of_z f) at h)

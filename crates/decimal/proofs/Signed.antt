@@ -1,23 +1,19 @@
 -- How far a signed word lies from 0, and its text by that. Assumes nothing.
 use mathlib.Core.Bool.{true, false, true≢false}
-use mathlib.Core.Path.{◌≡◌, refl, sym, ap, ◌∙◌, subst}
+use mathlib.Core.Path.{◌≡◌, refl, sym, ap, ◌∙◌}
 use mathlib.Core.List.{◌∷◌}
-use Prim.Native.Nat.{ℕ, suc, ◌+◌, ◌-◌, ◌≤◌}
+use Prim.Native.Nat.{ℕ, suc, ◌-◌, ◌≤◌}
 use native.Mathlib.Omega.{arith}
-use lib.Dec.{T}
-use lib.IntN.{ℤ, pos, negsuc, nat_abs, ◌-ℤ◌}
-use lib.Signed.{mag, lt_z, non_neg}
+use lib.IntN.{ℤ, pos, negsuc, nat_abs}
+use lib.Signed.{mag, lt_z}
 use mir.Syntax.{w64}
-use mir.Val.{Fits, SFits}
+use mir.Val.{SFits}
 use mir.Facts.{to_z-of_z}
-use borrow.Author.Tests.{ltb-true, le-ltb}
+use borrow.Author.Tests.{ltb-true}
 use Rattle.lemmas.proofs.Words.{kept}
 use Rattle.decimal.specs.Decimal.{decimal, signed}
 
 -- ---- a number below 0, as the code tests it
-up_from : (n : ℕ) → negsuc 0 -ℤ negsuc n ≡ pos n
-up_from n = rw (le-ltb (suc n) 1 (omega arith)) (ap pos (omega arith))
-
 negative : (z : ℤ) → lt_z z (pos 0) ≡ true → (z ≡ negsuc (nat_abs z - 1)) × (1 ≤ nat_abs z) × (nat_abs z - 1 ≡ mag z)
 negative (pos n) h = absurd (omega (arith, ltb-true n 0 h))
 negative (negsuc n) h = (ap negsuc (omega arith), omega arith, omega arith)
@@ -34,24 +30,6 @@ module _ (z : ℤ) (f : SFits w64 z) where
     below : (z ≡ negsuc (nat_abs z - 1)) × (1 ≤ nat_abs z) × (nat_abs z - 1 ≡ mag z)
     below = negative z (rw is_kept at h)
 
-    less : negsuc 0 -ℤ kept z ≡ pos (nat_abs z - 1)
-    less = ap (λ (x : ℤ). negsuc 0 -ℤ x) (is_kept ∙ below.0) ∙ up_from (nat_abs z - 1)
-
-    pub less_fits : SFits w64 (negsuc 0 -ℤ kept z)
-    less_fits = rw less (record { sfits = omega (arith, f.sfits, below.2) })
-
-    less_kept : kept (negsuc 0 -ℤ kept z) ≡ pos (nat_abs z - 1)
-    less_kept = to_z-of_z less_fits ∙ less
-
-    pub less_unsigned : T (non_neg (kept (negsuc 0 -ℤ kept z))) × Fits w64 (nat_abs (kept (negsuc 0 -ℤ kept z)))
-    less_unsigned = rw less_kept (tt, record { fits = omega (arith, f.sfits, below.2) })
-
-    pub less_next : Fits w64 (nat_abs (kept (negsuc 0 -ℤ kept z)) + 1)
-    less_next = rw less_kept (record { fits = omega (arith, f.sfits, below.2) })
-
-    pub less_is : nat_abs (kept (negsuc 0 -ℤ kept z)) + 1 ≡ nat_abs z
-    less_is = rw less_kept (omega (arith, below.1))
-
     pub signed_below : {n : ℕ} → n ≡ nat_abs (kept z) → signed z ≡ 0x2D ∷ decimal n
     unfolding signed
     signed_below {n} m = let e : suc (nat_abs z - 1) ≡ n = omega (arith, below.1, m, ap nat_abs is_kept) in ap signed below.0 ∙ ap (λ (n : ℕ). 0x2D ∷ decimal n) e
@@ -59,9 +37,6 @@ module _ (z : ℤ) (f : SFits w64 z) where
   module _ (h : lt_z (kept z) (pos 0) ≡ false) where
     above : (z ≡ pos (nat_abs z)) × (nat_abs z ≡ mag z)
     above = positive z (rw is_kept at h)
-
-    pub unsigned : T (non_neg (kept z)) × Fits w64 (nat_abs (kept z))
-    unsigned = rw is_kept (subst (λ (x : ℤ). T (non_neg x)) (sym above.0) tt, record { fits = omega (arith, f.sfits, above.1) })
 
     pub signed_above : {n : ℕ} → n ≡ nat_abs (kept z) → signed z ≡ decimal n
     unfolding signed

@@ -1,12 +1,7 @@
 use native.Mathlib.Omega.{arith}
-use borrow.Author.Rules.{rules}
 use lib.ListN.{length-set}
-use lib.Seq.{paste-zero}
 use Rattle.decimal.proofs.Writes.{wrote_copy, copy_turn}
 use Rattle.decimal.proofs.put_bytes.Goals as goal
-
-pub loop-i-init : goal.loop-i-init
-loop-i-init c = search (paste-zero, rules)
 
 pub loop-i-preserved : goal.loop-i-preserved
 loop-i-preserved c = (omega arith, copy_turn _ _ _ _ _ c.loop-i.invariant.1 (omega arith) (omega arith), simp length-set c.loop-i.invariant.2)

@@ -5,9 +5,6 @@ use Rattle.decimal.proofs.Writes.{left_all, left_as, left_then, left_last, room_
 use Rattle.decimal.proofs.Signed.{signed_below, signed_above}
 use Rattle.decimal.proofs.put_number.Goals as goal
 
-pub put_byte-a-requires : goal.put_byte-a-requires
-put_byte-a-requires c = room_front (signed c.args.z) c.requires
-
 pub put_byte-b-requires : goal.put_byte-b-requires
 put_byte-b-requires c =
     let text : signed c.args.z ≡ 0x2D ∷ decimal c.magnitude-n.result = signed_below c.args.z c.ranges.z c.if-z-lt0.true c.magnitude-n.ensures in

@@ -1,4 +1,4 @@
-use Rattle.decimal.proofs.Bits.{below_is, below_from, above_is}
+use Rattle.decimal.proofs.Bits.{below_is, above_is}
 use Rattle.decimal.proofs.little.word.Goals as goal
 
 pub returns-then-z-lt0 : goal.returns-then-z-lt0
@@ -6,6 +6,3 @@ returns-then-z-lt0 c = below_is _ c.ranges.z c.magnitude-m.ensures c.if-z-lt0.tr
 
 pub returns : goal.returns
 returns c = above_is _ c.ranges.z c.magnitude-m.ensures c.if-z-lt0.false
-
-pub overflow_sub-result : goal.overflow_sub-result
-overflow_sub-result c = below_from _ c.ranges.z c.magnitude-m.ensures c.if-z-lt0.true
