@@ -1,5 +1,6 @@
 // Which records lie on the faulted board's chain; in the modules what each board shares with it, and what each record carries to the fault.
 #![tactic(auto)]
+
 pub mod carried;
 pub mod share;
 
