@@ -1,5 +1,6 @@
 // The amps of a fault, whole.
 #![tactic(auto)]
+
 ghost use Rattle.std.specs.Prelude.{not, cond, ◌≡◌, ◌*◌, ◌≤◌, nat_abs};
 ghost use Rattle.root.specs.Root.{Root};
 ghost use Rattle.paper.specs.Amps.{factor};
@@ -34,9 +35,9 @@ fn factor(z2: Ohms, kind: u8, earthed: bool) -> u64
 
 // The greatest n not above |I| · volts · 10^6 / unit.
 pub fn amps(volts: u16, unit: u16, z2: Ohms, d: i64, kind: u8, earthed: bool) -> u64
-    requires volts_bound { volts ≤ 1000 }
-    requires le_unit { 1 ≤ unit }
-    requires positive { Positive d }
+    requires volts_at_most { volts ≤ 1000 }
+    requires unit_at_least { 1 ≤ unit }
+    requires d_positive { Positive d }
     ensures { Root (factor (not earthed) z2 kind * ((volts * 1000000) * (volts * 1000000))) (nat_abs d * (unit * unit)) result }
 {
     let v = volts as u64 * 1000000;
