@@ -1,5 +1,6 @@
 // The entry point for crews: the record that a board's earth return comes from, or the one that stops it.
 #![tactic(auto)]
+
 ghost use Rattle.std.specs.Prelude.{◌≡◌};
 ghost use Rattle.paper.specs.Bytes.{part};
 ghost use Rattle.paper.specs.declared.Lent.TheVariants.{LabelBytes};
