@@ -2,14 +2,14 @@
 use mathlib.Core.Bool.{Bool, true, false}
 use mathlib.Core.List.{List, [], ◌∷◌, ◌++◌}
 use mathlib.Core.Path.{◌≡◌, refl, ap}
-use Prim.Native.Nat.{ℕ, ◌+◌, ◌≤◌}
+use Prim.Native.Nat.{ℕ, ◌≤◌}
 use native.Mathlib.Omega.{arith}
 use lib.IntN.{ℤ, pos, negsuc}
 use lib.ListN.{replicate, length}
 use base.Fml.{Lft}
-use denote.Ref.{Bor}
+use denote.MutBor.{MutBor}
 use Rattle.lemmas.specs.Over.{over}
-use Rattle.lemmas.proofs.RuledOut.{◌↛◌, RuledOut, ever, ends, by, by_equation, bool, wholes, lent}
+use Rattle.lemmas.proofs.RuledOut.{◌↛◌, RuledOut, ever, ends, by, by_equation, bool, wholes, lent_out}
 use Rattle.turn.specs.declared.Num.{Num}
 use Rattle.turn.specs.Number.{whole_n, complex_n, ◌+N◌, neg_n, ◌·N◌, times_t, ◌*N◌, power_n, conj_n, square_n}
 use Rattle.turn.specs.Bounds.{Within}
@@ -86,28 +86,28 @@ s0_plane : EachSeq (Plane most_w) zero_seq
 s0_plane = each most_w nil_plane nil_plane one_plane
 
 -- ---- what is put into a part of the buffer
-abbrev found : ℕ → Bor (List ℤ)
-found n = lent (replicate n (pos 0))
+abbrev found : ℕ → MutBor (List ℤ)
+found n = lent_out (replicate n (pos 0))
 
 -- the call with its part as it is left
-abbrev left : {A : Type 0} → Bor (List ℤ) × A → List ℤ → Unit {0} × (Bor (List ℤ) × A)
-left a zs = (tt, (lent zs, a.1))
+abbrev left : {A : Type 0} → MutBor (List ℤ) × A → List ℤ → Unit {0} × (MutBor (List ℤ) × A)
+left a zs = (tt, (lent_out zs, a.1))
 
-abbrev seen : {A : Type 0} → Unit {0} × (Bor (List ℤ) × A) → ℕ
+abbrev seen : {A : Type 0} → Unit {0} × (MutBor (List ℤ) × A) → ℕ
 seen z = wholes z.1.0.now
 
 -- 1 + 2 t + 3 t² + 4 t³, shown by phase b
 abbrev counted : Num
 counted = num (pos 1) (pos 2) (pos 3) (pos 4)
 
-abbrev in_b : Bor (List ℤ) × (ℕ × (Num × Unit {0}))
+abbrev in_b : MutBor (List ℤ) × (ℕ × (Num × Unit {0}))
 in_b = (found 12, (1, (counted, tt)))
 
-abbrev sevens : Bor (List ℤ) × Unit {0}
-sevens = (lent (replicate 12 (pos 7)), tt)
+abbrev sevens : MutBor (List ℤ) × Unit {0}
+sevens = (lent_out (replicate 12 (pos 7)), tt)
 
 -- the phases of a board of turn sj, the faulted board's being 0, p the odd one
-abbrev call : ℕ → ℕ → Seq → Bor (List ℤ) × (ℕ × (ℕ × (ℕ × (Seq × Unit {0}))))
+abbrev call : ℕ → ℕ → Seq → MutBor (List ℤ) × (ℕ × (ℕ × (ℕ × (Seq × Unit {0}))))
 call p sj x = (found 12, (p, (sj, (0, (x, tt)))))
 
 allowed : {x : Seq} (p s : ℕ) → p ≤ 1 → s ≤ 4 → EachSeq (Plane most_w) x → (length (found 12).now ≡ 12) × (((p ≤ 2) × (s ≤ 2816) × (0 ≤ 2816)) × EachSeq (Plane most_w) x)
@@ -234,10 +234,10 @@ risen_small = fault_small 0 (omega arith) (each most_i i_nil i_nil i_nil) (plane
 asked : {f : Faulted} → FaultSmall f → (length (found 24).now ≡ 24) × FaultSmall f × ShareSmall alone × (0 ≤ 2816)
 asked h = (refl, h, alone_small, omega arith)
 
-abbrev at_fault_lem : ℕ → Bor (List ℤ) × (Faulted × Unit {0})
+abbrev at_fault_lem : ℕ → MutBor (List ℤ) × (Faulted × Unit {0})
 at_fault_lem turn = (found 13, (forth_at turn, tt))
 
-abbrev board_call : Faulted → Bool → Node → Bor (List ℤ) × (Faulted × (Bool × (Node × (Shared × Unit {0}))))
+abbrev board_call : Faulted → Bool → Node → MutBor (List ℤ) × (Faulted × (Bool × (Node × (Shared × Unit {0}))))
 board_call f on n = (found 24, (f, (on, (n, (alone, tt)))))
 
 module _ (κ : Lft) where

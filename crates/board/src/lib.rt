@@ -1,5 +1,6 @@
 // The numbers of one board: voltages and currents, turned to its phases, in its part of the buffer. In `front`, what stands before all boards.
 #![tactic(auto)]
+
 pub mod front;
 mod phases;
 mod put;
@@ -48,7 +49,7 @@ fn passed(f: Faulted, on: bool, here: bool) -> Seq
 pub(crate) fn shown(out: &mut [i64], f: Faulted, turn: u16, x: Seq)
     requires out_len { length out.old ≡ 12 }
     requires phase_bound { (f.phase ≤ 2) × (f.turn ≤ 2816) × (turn ≤ 2816) }
-    requires each_seq { EachSeq (Plane most_w) x }
+    requires x_plane { EachSeq (Plane most_w) x }
     ensures { out.new ≡ flat (phases f.phase turn f.turn x) }
 {
     phases(out, f.phase as usize, turn as usize, f.turn as usize, x);

@@ -79,7 +79,7 @@ fn three(out: &mut [i64], p: usize, f: usize, u: Num, v: Num, w: Num)
 pub(crate) fn phases(out: &mut [i64], p: usize, sj: usize, sk: usize, x: Seq)
     requires out_len { length out.old ≡ 12 }
     requires p_bound { (p ≤ 2) × (sj ≤ 2816) × (sk ≤ 2816) }
-    requires each_seq { EachSeq (Plane most_w) x }
+    requires x_plane { EachSeq (Plane most_w) x }
     ensures { out.new ≡ flat (phases p sj sk x) }
 {
     let x1 = x.s1;
