@@ -13,7 +13,8 @@ use lib.Seq.{get_or-append-add}
 use mir.Syntax.{w64}
 use mir.Val.{SFits}
 use Rattle.lemmas.specs.Over.{over}
-use Rattle.lemmas.proofs.Words.{sfits}
+use mir.Facts.{to_z-of_z}
+use Rattle.lemmas.proofs.Words.{kept, sfits}
 use Rattle.lemmas.proofs.Over.{put_over, over_then, over_length}
 use Rattle.root.specs.Root.{Root}
 use Rattle.paper.specs.declared.Head.{Head}
@@ -133,6 +134,10 @@ module _ {q : Asked} {h : Head} {ns : List Node} {f : Fault} {k : ℕ} (p : Pose
 
     pub d_fits : {g : Faulted} → g ≡ faulted_from at f → SFits w64 g.d
     d_fits e = sfits (fault_small q p.ready (faulted_good e)).d_small (lit≤ tt)
+
+    -- so its word is itself
+    pub d_good : {g : Faulted} → g ≡ faulted_from at f → kept g.d ≡ g.d
+    d_good {g} e = to_z-of_z {w = w64} {z = g.d} (d_fits e)
 
     pub d_positive : {g : Faulted} {d : ℤ} → d ≡ g.d → g ≡ faulted_from at f → Positive d
     d_positive c e = subst Positive (sym (c ∙ d_is e)) (the_d_positive q p.ready.Z1_there p.ready.Z2_there)

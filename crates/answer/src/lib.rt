@@ -1,5 +1,6 @@
 // The answer in the caller's buffer: D and the fault's currents, then the 24 numbers of each board in one pass in file order; and the amps.
 #![tactic(auto)]
+
 mod pass;
 
 ghost use Rattle.std.specs.Prelude.{◌≡◌, ◌≤◌, length};
