@@ -1,5 +1,6 @@
 // The entry point: a network and a fault, answered in the caller's buffer, or refused by the first rule that they break.
 #![tactic(auto)]
+
 ghost use Rattle.std.specs.Prelude.{◌≡◌, length};
 ghost use Rattle.paper.specs.Answer.{verdict, written};
 
