@@ -7,6 +7,7 @@ ghost use Rattle.verdict.specs.Said.{part_said};
 ghost use Rattle.verdict.specs.Shown.{shown_bytes};
 
 use crate::read;
+use std::io::Read;
 use stream::case::Case;
 
 // The most bytes of the network and of the label.
@@ -29,7 +30,7 @@ fn answer<'a>(out: &mut [u8], net: &'a [u8], label: &'a [u8]) -> usize
 }
 
 // How many bytes the answer has. None: the case lends room, for which there is no use, or says too much, or is cut off.
-pub(crate) fn case(asked: Case, parts: &mut [u8], out: &mut [u8]) -> usize
+pub(crate) fn case<R: Read>(stdin: &mut R, asked: Case, parts: &mut [u8], out: &mut [u8]) -> usize
     requires value { 16464 ≡ length parts.old }
     requires value_2 { 67636 ≡ length out.old }
     ensures { result ≤ 67636 }
@@ -47,7 +48,7 @@ pub(crate) fn case(asked: Case, parts: &mut [u8], out: &mut [u8]) -> usize
         return 0;
     }
     let e = n + m;
-    if !read(parts, e) {
+    if !read(stdin, parts, e) {
         return 0;
     }
     answer(out, &parts[0..n], &parts[n..e])

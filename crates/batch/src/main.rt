@@ -14,13 +14,14 @@
 //
 // At the end of the input END and a line's end; where a case is cut off, asks another entry point, or says a length that it may not have, CUT and a line's end; after BUDGET cases BUDG.
 #![tactic(auto)]
+
 mod earthing;
 mod solving;
 mod writing;
 
 ghost use Rattle.std.specs.Prelude.{◌≡◌, ◌≤◌, length};
 
-use libc::{STDERR_FILENO, STDIN_FILENO, STDOUT_FILENO};
+use std::io::{Read, Write};
 use stream::case::Case;
 
 // Every run ends, whoever feeds it.
@@ -78,25 +79,26 @@ fn page() -> [u8; 67636]
 }
 
 // A write that fails is said on standard error.
-fn say(text: &[u8]) {
-    if !io::write_all(STDOUT_FILENO, text) {
-        io::write_all(
-            STDERR_FILENO,
-            b"batch: the answers could not be written to standard output\n",
-        );
-    }
+fn say<O: Write, E: Write>(stdout: &mut O, stderr: &mut E, text: &[u8]) {
+    console::print(
+        stdout,
+        stderr,
+        text,
+        b"batch: the answers could not be written to standard output\n",
+    );
 }
 
 // The two parts of a case, e bytes together: whether they were all there.
-pub(crate) fn read(parts: &mut [u8], e: usize) -> bool
+pub(crate) fn read<R: Read>(stdin: &mut R, parts: &mut [u8], e: usize) -> bool
     requires { e ≤ length parts.old }
 {
-    let got = io::read_full(STDIN_FILENO, &mut parts[0..e]);
+    let got = console::read_full(stdin, &mut parts[0..e]);
     e <= got
 }
 
 // How many bytes the answer has. None: the case is not whole, or is none that is answered here.
-fn answer(
+fn answer<R: Read>(
+    stdin: &mut R,
     asked: Case,
     parts: &mut [u8],
     buffer: &mut [i64],
@@ -111,15 +113,23 @@ fn answer(
 {
     let entry = asked.entry;
     match entry {
-        SOLVE => solving::case(asked, parts, buffer, out),
-        WRITE => writing::case(asked, parts, file, out),
-        EARTH => earthing::case(asked, parts, out),
+        SOLVE => solving::case(stdin, asked, parts, buffer, out),
+        WRITE => writing::case(stdin, asked, parts, file, out),
+        EARTH => earthing::case(stdin, asked, parts, out),
         _ => 0,
     }
 }
 
 // One write for a case. Whether it was whole, and its answer written.
-fn case(head: &[u8], parts: &mut [u8], buffer: &mut [i64], file: &mut [u8], out: &mut [u8]) -> bool
+fn case<R: Read, W: Write>(
+    stdin: &mut R,
+    stdout: &mut W,
+    head: &[u8],
+    parts: &mut [u8],
+    buffer: &mut [i64],
+    file: &mut [u8],
+    out: &mut [u8],
+) -> bool
     requires value { 16 ≡ length head.now }
     requires value_2 { 16464 ≡ length parts.old }
     requires value_3 { 6400 ≡ length buffer.old }
@@ -127,14 +137,16 @@ fn case(head: &[u8], parts: &mut [u8], buffer: &mut [i64], file: &mut [u8], out:
     requires value_5 { 67636 ≡ length out.old }
 {
     let asked = stream::case::case_of(head);
-    let end = answer(asked, parts, buffer, file, out);
+    let end = answer(stdin, asked, parts, buffer, file, out);
     if end == 0 {
         return false;
     }
-    io::write_all(STDOUT_FILENO, &out[..end])
+    stdout.write_all(&out[..end]).is_ok()
 }
 
-fn run(
+fn run<R: Read, W: Write>(
+    stdin: &mut R,
+    stdout: &mut W,
     head: &mut [u8],
     parts: &mut [u8],
     buffer: &mut [i64],
@@ -149,14 +161,14 @@ fn run(
 {
     let mut done: u32 = 0;
     while done < BUDGET {
-        let got = io::read_full(STDIN_FILENO, head);
+        let got = console::read_full(stdin, head);
         if got == 0 {
             return End::Input;
         }
         if got < NUMBERS {
             return End::Cut;
         }
-        if !case(head, parts, buffer, file, out) {
+        if !case(stdin, stdout, head, parts, buffer, file, out) {
             return End::Cut;
         }
         done += 1;
@@ -164,16 +176,26 @@ fn run(
     End::Budget
 }
 
-fn main() {
+fn main(rt: HostRuntime) {
     let mut head = four();
     let mut space = parts();
     let mut buffer = elements();
     let mut file = output();
     let mut out = page();
-    let end = run(&mut head, &mut space, &mut buffer, &mut file, &mut out);
+    let mut stdout = rt.stdout();
+    let mut stderr = rt.stderr();
+    let end = run(
+        &mut rt.stdin(),
+        &mut stdout,
+        &mut head,
+        &mut space,
+        &mut buffer,
+        &mut file,
+        &mut out,
+    );
     match end {
-        End::Input => say(b"END\n"),
-        End::Cut => say(b"CUT\n"),
-        End::Budget => say(b"BUDG"),
+        End::Input => say(&mut stdout, &mut stderr, b"END\n"),
+        End::Cut => say(&mut stdout, &mut stderr, b"CUT\n"),
+        End::Budget => say(&mut stdout, &mut stderr, b"BUDG"),
     }
 }

@@ -7,6 +7,7 @@ ghost use Rattle.stream.specs.Layout.{bytes_of};
 ghost use Rattle.verdict.specs.Shown.{shown_bytes};
 
 use crate::read;
+use std::io::Read;
 use stream::case::Case;
 
 // The most elements of the buffer, and the most bytes of the network and of the fault.
@@ -33,7 +34,13 @@ fn answer<'a>(out: &mut [u8], net: &'a [u8], flt: &'a [u8], buffer: &mut [i64]) 
 }
 
 // How many bytes the answer has. None: the case says too much, or is cut off.
-pub(crate) fn case(asked: Case, parts: &mut [u8], buffer: &mut [i64], out: &mut [u8]) -> usize
+pub(crate) fn case<R: Read>(
+    stdin: &mut R,
+    asked: Case,
+    parts: &mut [u8],
+    buffer: &mut [i64],
+    out: &mut [u8],
+) -> usize
     requires value { 16464 ≡ length parts.old }
     requires value_2 { 6400 ≡ length buffer.old }
     requires value_3 { 67636 ≡ length out.old }
@@ -52,7 +59,7 @@ pub(crate) fn case(asked: Case, parts: &mut [u8], buffer: &mut [i64], out: &mut 
         return 0;
     }
     let e = n + m;
-    if !read(parts, e) {
+    if !read(stdin, parts, e) {
         return 0;
     }
     answer(out, &parts[0..n], &parts[n..e], &mut buffer[0..room])

@@ -9,6 +9,7 @@ ghost use Rattle.stream.specs.Layout.{written_of};
 
 use crate::read;
 use file::field::u16_at;
+use std::io::Read;
 use stream::case::{Case, boards_of};
 
 // The most bytes of the output, the most boards, the bytes of each, and the bytes of volts and unit.
@@ -37,7 +38,13 @@ fn answer(out: &mut [u8], boards: &[u8], n: usize, head: &[u8], file: &mut [u8])
 }
 
 // How many bytes the answer has. None: the case says too much, its first part is not whole boards or its second not volts and unit, or it is cut off.
-pub(crate) fn case(asked: Case, parts: &mut [u8], file: &mut [u8], out: &mut [u8]) -> usize
+pub(crate) fn case<R: Read>(
+    stdin: &mut R,
+    asked: Case,
+    parts: &mut [u8],
+    file: &mut [u8],
+    out: &mut [u8],
+) -> usize
     requires value { 16464 ≡ length parts.old }
     requires value_2 { 16400 ≡ length file.old }
     requires value_3 { 67636 ≡ length out.old }
@@ -60,7 +67,7 @@ pub(crate) fn case(asked: Case, parts: &mut [u8], file: &mut [u8], out: &mut [u8
         return 0;
     }
     let e = first + second;
-    if !read(parts, e) {
+    if !read(stdin, parts, e) {
         return 0;
     }
     answer(

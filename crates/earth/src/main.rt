@@ -1,12 +1,13 @@
 // Reads network.bin and, on standard input, a label of twelve bytes; prints where the board's earth return comes from, what stops it, or the refusal.
 #![tactic(auto)]
+
 ghost use Rattle.std.specs.Prelude.{◌≡◌, ◌≤◌, length};
 ghost use Rattle.decimal.specs.Wrote.{Wrote};
 ghost use Rattle.paper.specs.Return.{earth_said};
 ghost use Rattle.lines.specs.Earth.{earth_text, earth_most};
 ghost use Rattle.earth.specs.Limits.{label_most};
 
-use libc::STDIN_FILENO;
+use std::io::Write;
 
 // What is read of the label at most: all of a label, and a byte more, so that a longer one is refused and not cut to a label.
 const LABEL: usize = 13;
@@ -33,19 +34,21 @@ fn answer(out: &mut [u8], net: &[u8], label: &[u8]) -> usize
     lines::earthed::put_earth(out, 0, given)
 }
 
-fn show(net: &[u8], label: &[u8]) {
+fn show<O: Write, E: Write>(stdout: &mut O, stderr: &mut E, net: &[u8], label: &[u8]) {
     let mut out = page();
     let end = answer(&mut out, net, label);
     console::print(
+        stdout,
+        stderr,
         &out[..end],
         b"earth: the answer could not be written to standard output\n",
     );
 }
 
-fn main() {
+fn main(rt: HostRuntime) {
     let mut net = console::file_space();
-    let n = console::network(&mut net);
+    let n = console::network(&rt, &mut net);
     let mut label = label_space();
-    let m = io::read_full(STDIN_FILENO, &mut label);
-    show(&net[..n], &label[..m]);
+    let m = console::read_full(&mut rt.stdin(), &mut label);
+    show(&mut rt.stdout(), &mut rt.stderr(), &net[..n], &label[..m]);
 }

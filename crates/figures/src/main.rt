@@ -2,34 +2,36 @@
 // For each it prints a line: the number, the place, N, the amps, whose bytes are shown, where they start and how many they are, and how many of the room's
 // numbers are as they were found; and, where the number is 0, the numbers of the answer: D, then twelve to a line.
 #![tactic(auto)]
-ghost use Rattle.std.specs.Prelude.{◌≤◌};
 
-use decimal::magnitude;
+ghost use Rattle.std.specs.Prelude.{◌≡◌, ◌≤◌, length};
+
 use file::field::u16_at;
-use libc::{STDIN_FILENO, STDOUT_FILENO};
 use paper::{Answer, Lent};
+use std::io::Write;
 
 // What the buffer holds before a call. Room for 257 boards, one more than there may be.
 const FOUND: i64 = 7777777;
 
 const MOST: usize = 6181;
 
-fn say(text: &[u8]) {
-    io::write_all(STDOUT_FILENO, text);
+// What is read of the input at most.
+fn large_space() -> [u8; 65536]
+    ensures { 65536 ≡ length result }
+{
+    [0; 65536]
 }
 
-fn number(n: u64) {
-    say(b" ");
-    io::print_decimal(STDOUT_FILENO, n);
+// What cannot be written is left out.
+fn say<W: Write>(to: &mut W, text: &[u8]) {
+    let _ = to.write_all(text);
 }
 
-fn signed(z: i64) {
-    if z < 0 {
-        say(b" -");
-        io::print_decimal(STDOUT_FILENO, magnitude(z));
-    } else {
-        number(magnitude(z));
-    }
+fn number<W: Write>(to: &mut W, n: u64) {
+    let _ = write!(to, " {n}");
+}
+
+fn signed<W: Write>(to: &mut W, z: i64) {
+    let _ = write!(to, " {z}");
 }
 
 fn as_found(z: i64) -> usize
@@ -48,57 +50,57 @@ fn kept(all: &[i64]) -> usize {
     count
 }
 
-fn numbers(all: &[i64]) {
+fn numbers<W: Write>(to: &mut W, all: &[i64]) {
     let mut i: usize = 0;
     while i < all.len() {
         if i % 12 == 1 {
-            say(b"\n");
+            say(to, b"\n");
         }
-        signed(all[i]);
+        signed(to, all[i]);
         i += 1;
     }
-    say(b"\n");
+    say(to, b"\n");
 }
 
 // The buffer after a call, all of the room that was lent.
-fn print(answer: Answer, all: &[i64]) {
+fn print<W: Write>(to: &mut W, answer: Answer, all: &[i64]) {
     let part = answer.part;
     let whose = part.whose;
     let n = answer.n as usize;
-    say(b"CASE");
-    number(answer.number as u64);
-    number(answer.place as u64);
-    number(n as u64);
-    number(answer.amps);
+    say(to, b"CASE");
+    number(to, answer.number as u64);
+    number(to, answer.place as u64);
+    number(to, n as u64);
+    number(to, answer.amps);
     match whose {
-        Lent::NetworkBytes => say(b" network"),
-        Lent::FaultBytes => say(b" fault"),
-        Lent::LabelBytes => say(b" label"),
+        Lent::NetworkBytes => say(to, b" network"),
+        Lent::FaultBytes => say(to, b" fault"),
+        Lent::LabelBytes => say(to, b" label"),
     }
-    number(part.start as u64);
-    number(part.len as u64);
-    number(kept(all) as u64);
-    say(b"\n");
+    number(to, part.start as u64);
+    number(to, part.len as u64);
+    number(to, kept(all) as u64);
+    say(to, b"\n");
     let e = 13 + 24 * n;
     if answer.number == 0 && e <= all.len() {
-        numbers(&all[0..e]);
+        numbers(to, &all[0..e]);
     }
 }
 
-fn show(net: &[u8], flt: &[u8], buffer: &mut [i64]) {
+fn show<W: Write>(to: &mut W, net: &[u8], flt: &[u8], buffer: &mut [i64]) {
     let answer = solve::solve(net, flt, buffer);
-    print(answer, buffer);
+    print(to, answer, buffer);
 }
 
-fn case(net: &[u8], flt: &[u8], room: usize) {
+fn case<W: Write>(to: &mut W, net: &[u8], flt: &[u8], room: usize) {
     let mut space = [FOUND; MOST];
     let all: &mut [i64] = &mut space;
     if room <= all.len() {
-        show(net, flt, &mut all[0..room]);
+        show(to, net, flt, &mut all[0..room]);
     }
 }
 
-fn each(all: &[u8]) {
+fn each<W: Write>(to: &mut W, all: &[u8]) {
     let mut at: usize = 0;
     while 6 <= all.len() - at {
         let nets = u16_at(all, at) as usize;
@@ -110,13 +112,13 @@ fn each(all: &[u8]) {
         }
         let m = a + nets;
         let e = m + flts;
-        case(&all[a..m], &all[m..e], room);
+        case(to, &all[a..m], &all[m..e], room);
         at = e;
     }
 }
 
-fn main() {
-    let mut space = io::large_buffer();
-    let n = io::read_full(STDIN_FILENO, &mut space);
-    each(&space[..n]);
+fn main(rt: HostRuntime) {
+    let mut space = large_space();
+    let n = console::read_full(&mut rt.stdin(), &mut space);
+    each(&mut rt.stdout(), &space[..n]);
 }

@@ -1,19 +1,29 @@
 // Reads networks off standard input, each behind its length in two bytes, and prints a line for each:
 // ACCEPTED and N, or REFUSED, the number, the place, and where the bytes that are shown start and how many they are.
 #![tactic(auto)]
+
+ghost use Rattle.std.specs.Prelude.{◌≡◌, length};
+
 use file::field::u16_at;
-use libc::{STDIN_FILENO, STDOUT_FILENO};
 use network::Network;
 use node::NUMBERS;
 use paper::Outcome;
+use std::io::Write;
 
-fn say(text: &[u8]) {
-    io::write_all(STDOUT_FILENO, text);
+// What is read of the input at most.
+fn large_space() -> [u8; 65536]
+    ensures { 65536 ≡ length result }
+{
+    [0; 65536]
 }
 
-fn number(n: u64) {
-    say(b" ");
-    io::print_decimal(STDOUT_FILENO, n);
+// What cannot be written is left out.
+fn say<W: Write>(to: &mut W, text: &[u8]) {
+    let _ = to.write_all(text);
+}
+
+fn number<W: Write>(to: &mut W, n: u64) {
+    let _ = write!(to, " {n}");
 }
 
 // The network alone: no board is asked for, and its nodes are left.
@@ -23,28 +33,28 @@ fn read(net: &[u8]) -> Network {
     network::read(net, nobody, &mut nodes)
 }
 
-fn show(net: &[u8]) {
+fn show<W: Write>(to: &mut W, net: &[u8]) {
     let read = read(net);
     let outcome = read.outcome;
     let head = read.head;
     match outcome {
         Outcome::Accepted => {
-            say(b"ACCEPTED");
-            number(head.boards as u64);
+            say(to, b"ACCEPTED");
+            number(to, head.boards as u64);
         }
         Outcome::Refused(why) => {
             let part = why.part;
-            say(b"REFUSED");
-            number(why.number as u64);
-            number(why.place as u64);
-            number(part.start as u64);
-            number(part.len as u64);
+            say(to, b"REFUSED");
+            number(to, why.number as u64);
+            number(to, why.place as u64);
+            number(to, part.start as u64);
+            number(to, part.len as u64);
         }
     }
-    say(b"\n");
+    say(to, b"\n");
 }
 
-fn each(all: &[u8]) {
+fn each<W: Write>(to: &mut W, all: &[u8]) {
     let mut at: usize = 0;
     while 2 <= all.len() - at {
         let len = u16_at(all, at) as usize;
@@ -53,13 +63,13 @@ fn each(all: &[u8]) {
             return;
         }
         let e = a + len;
-        show(&all[a..e]);
+        show(to, &all[a..e]);
         at = e;
     }
 }
 
-fn main() {
-    let mut space = io::large_buffer();
-    let n = io::read_full(STDIN_FILENO, &mut space);
-    each(&space[..n]);
+fn main(rt: HostRuntime) {
+    let mut space = large_space();
+    let n = console::read_full(&mut rt.stdin(), &mut space);
+    each(&mut rt.stdout(), &space[..n]);
 }

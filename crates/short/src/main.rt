@@ -1,11 +1,12 @@
 // Reads network.bin and, on standard input, one fault; prints the answer, or the refusal.
 #![tactic(auto)]
+
 ghost use Rattle.std.specs.Prelude.{◌≡◌, ◌≤◌, length};
 ghost use Rattle.decimal.specs.Wrote.{Wrote};
 ghost use Rattle.text.specs.Text.{printed, text_most};
 ghost use Rattle.short.specs.Limits.{fault_most};
 
-use libc::STDIN_FILENO;
+use std::io::Write;
 
 // What is read of the fault at most: all of a sound one, and a byte more, so that a longer one is refused and not cut to a sound one.
 const FAULT: usize = 21;
@@ -39,19 +40,21 @@ fn answer(out: &mut [u8], net: &[u8], flt: &[u8]) -> usize
     text::print(out, net, flt, given, &space)
 }
 
-fn show(net: &[u8], flt: &[u8]) {
+fn show<O: Write, E: Write>(stdout: &mut O, stderr: &mut E, net: &[u8], flt: &[u8]) {
     let mut out = page();
     let end = answer(&mut out, net, flt);
     console::print(
+        stdout,
+        stderr,
         &out[..end],
         b"short: the answer could not be written to standard output\n",
     );
 }
 
-fn main() {
+fn main(rt: HostRuntime) {
     let mut net = console::file_space();
-    let n = console::network(&mut net);
+    let n = console::network(&rt, &mut net);
     let mut flt = fault_space();
-    let m = io::read_full(STDIN_FILENO, &mut flt);
-    show(&net[..n], &flt[..m]);
+    let m = console::read_full(&mut rt.stdin(), &mut flt);
+    show(&mut rt.stdout(), &mut rt.stderr(), &net[..n], &flt[..m]);
 }
