@@ -3,8 +3,8 @@
 // the scripts at the top end with 1 then.
 #![tactic(auto)]
 
-ghost use Rattle.std.specs.Io.KnownBytes.{Consumes};
-ghost use Rattle.std.specs.Prelude.{◌≡◌, length, take};
+ghost use Rattle.std.specs.Io.KnownBytes.{Appends, Consumes, Keeps};
+ghost use Rattle.std.specs.Prelude.{◌≡◌, IsTrue, length, take};
 ghost use Rattle.console.specs.Counts.{IsPrefixLen};
 ghost use Rattle.console.specs.Limits.{file_most};
 
@@ -47,9 +47,14 @@ pub fn network<R: Files>(rt: &R, space: &mut [u8]) -> usize
     }
 }
 
-// A text to standard output; where it cannot be written, what is said of that.
-pub fn print<O: Write, E: Write>(out: &mut O, err: &mut E, text: &[u8], failed: &[u8]) {
-    if out.write_all(text).is_err() {
-        let _ = err.write_all(failed);
+// A text to standard output; where it cannot be written, what is said of that. Whether it was written.
+pub fn print<O: Write, E: Write>(out: &mut O, err: &mut E, text: &[u8], failed: &[u8]) -> bool
+    ensures printed { IsTrue result → Appends (O.contents out.old) (O.contents out.new) text.now }
+    ensures quiet { IsTrue result → Keeps (E.contents err.old) (E.contents err.new) }
+{
+    if out.write_all(text).is_ok() {
+        return true;
     }
+    let _ = err.write_all(failed);
+    false
 }
