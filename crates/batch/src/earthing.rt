@@ -31,8 +31,8 @@ fn answer<'a>(out: &mut [u8], net: &'a [u8], label: &'a [u8]) -> usize
 
 // How many bytes the answer has. None: the case lends room, for which there is no use, or says too much, or is cut off.
 pub(crate) fn case<R: Read>(stdin: &mut R, asked: Case, parts: &mut [u8], out: &mut [u8]) -> usize
-    requires value { 16464 ≡ length parts.old }
-    requires value_2 { 67636 ≡ length out.old }
+    requires parts_len { 16464 ≡ length parts.old }
+    requires out_len { 67636 ≡ length out.old }
     ensures { result ≤ 67636 }
 {
     let room = asked.room;

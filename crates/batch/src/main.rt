@@ -105,10 +105,10 @@ fn answer<R: Read>(
     file: &mut [u8],
     out: &mut [u8],
 ) -> usize
-    requires value { 16464 ≡ length parts.old }
-    requires value_2 { 6400 ≡ length buffer.old }
-    requires value_3 { 16400 ≡ length file.old }
-    requires value_4 { 67636 ≡ length out.old }
+    requires parts_len { 16464 ≡ length parts.old }
+    requires buffer_len { 6400 ≡ length buffer.old }
+    requires file_len { 16400 ≡ length file.old }
+    requires out_len { 67636 ≡ length out.old }
     ensures { result ≤ 67636 }
 {
     let entry = asked.entry;
@@ -130,11 +130,11 @@ fn case<R: Read, W: Write>(
     file: &mut [u8],
     out: &mut [u8],
 ) -> bool
-    requires value { 16 ≡ length head.now }
-    requires value_2 { 16464 ≡ length parts.old }
-    requires value_3 { 6400 ≡ length buffer.old }
-    requires value_4 { 16400 ≡ length file.old }
-    requires value_5 { 67636 ≡ length out.old }
+    requires head_len { 16 ≡ length head.now }
+    requires parts_len { 16464 ≡ length parts.old }
+    requires buffer_len { 6400 ≡ length buffer.old }
+    requires file_len { 16400 ≡ length file.old }
+    requires out_len { 67636 ≡ length out.old }
 {
     let asked = stream::case::case_of(head);
     let end = answer(stdin, asked, parts, buffer, file, out);
@@ -153,11 +153,11 @@ fn run<R: Read, W: Write>(
     file: &mut [u8],
     out: &mut [u8],
 ) -> End
-    requires value { 16 ≡ length head.old }
-    requires value_2 { 16464 ≡ length parts.old }
-    requires value_3 { 6400 ≡ length buffer.old }
-    requires value_4 { 16400 ≡ length file.old }
-    requires value_5 { 67636 ≡ length out.old }
+    requires head_len { 16 ≡ length head.old }
+    requires parts_len { 16464 ≡ length parts.old }
+    requires buffer_len { 6400 ≡ length buffer.old }
+    requires file_len { 16400 ≡ length file.old }
+    requires out_len { 67636 ≡ length out.old }
 {
     let mut done: u32 = 0;
     while done < BUDGET {

@@ -41,9 +41,9 @@ pub(crate) fn case<R: Read>(
     buffer: &mut [i64],
     out: &mut [u8],
 ) -> usize
-    requires value { 16464 ≡ length parts.old }
-    requires value_2 { 6400 ≡ length buffer.old }
-    requires value_3 { 67636 ≡ length out.old }
+    requires parts_len { 16464 ≡ length parts.old }
+    requires buffer_len { 6400 ≡ length buffer.old }
+    requires out_len { 67636 ≡ length out.old }
     ensures { result ≤ 67636 }
 {
     let room = asked.room;

@@ -45,9 +45,9 @@ pub(crate) fn case<R: Read>(
     file: &mut [u8],
     out: &mut [u8],
 ) -> usize
-    requires value { 16464 ≡ length parts.old }
-    requires value_2 { 16400 ≡ length file.old }
-    requires value_3 { 67636 ≡ length out.old }
+    requires parts_len { 16464 ≡ length parts.old }
+    requires file_len { 16400 ≡ length file.old }
+    requires out_len { 67636 ≡ length out.old }
     ensures { result ≤ 67636 }
 {
     let room = asked.room;
