@@ -1,7 +1,8 @@
 // Reads network.bin and, on standard input, a label of twelve bytes; prints where the board's earth return comes from, what stops it, or the refusal.
 #![tactic(auto)]
 
-ghost use Rattle.std.specs.Prelude.{◌≡◌, ◌≤◌, length};
+ghost use Rattle.std.specs.Prelude.{◌≡◌, ◌≤◌, IsTrue, length};
+ghost use Rattle.std.specs.Io.KnownBytes.{Appends};
 ghost use Rattle.decimal.specs.Wrote.{Wrote};
 ghost use Rattle.paper.specs.Return.{earth_said};
 ghost use Rattle.lines.specs.Earth.{earth_text, earth_most};
@@ -34,7 +35,10 @@ fn answer(out: &mut [u8], net: &[u8], label: &[u8]) -> usize
     lines::earthed::put_earth(out, 0, given)
 }
 
-fn show<O: Write, E: Write>(stdout: &mut O, stderr: &mut E, net: &[u8], label: &[u8]) {
+// Where it answers true, the answer stands on standard output behind what was there.
+fn show<O: Write, E: Write>(stdout: &mut O, stderr: &mut E, net: &[u8], label: &[u8]) -> bool
+    ensures { IsTrue result → Appends (O.contents stdout.old) (O.contents stdout.new) (earth_text (earth_said net.now label.now)) }
+{
     let mut out = page();
     let end = answer(&mut out, net, label);
     console::print(
@@ -42,7 +46,7 @@ fn show<O: Write, E: Write>(stdout: &mut O, stderr: &mut E, net: &[u8], label: &
         stderr,
         &out[..end],
         b"earth: the answer could not be written to standard output\n",
-    );
+    )
 }
 
 fn main(rt: HostRuntime) {

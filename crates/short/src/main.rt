@@ -1,7 +1,8 @@
 // Reads network.bin and, on standard input, one fault; prints the answer, or the refusal.
 #![tactic(auto)]
 
-ghost use Rattle.std.specs.Prelude.{◌≡◌, ◌≤◌, length};
+ghost use Rattle.std.specs.Prelude.{◌≡◌, ◌≤◌, IsTrue, length};
+ghost use Rattle.std.specs.Io.KnownBytes.{Appends};
 ghost use Rattle.decimal.specs.Wrote.{Wrote};
 ghost use Rattle.text.specs.Text.{printed, text_most};
 ghost use Rattle.short.specs.Limits.{fault_most};
@@ -40,7 +41,10 @@ fn answer(out: &mut [u8], net: &[u8], flt: &[u8]) -> usize
     text::print(out, net, flt, given, &space)
 }
 
-fn show<O: Write, E: Write>(stdout: &mut O, stderr: &mut E, net: &[u8], flt: &[u8]) {
+// Where it answers true, the answer stands on standard output behind what was there.
+fn show<O: Write, E: Write>(stdout: &mut O, stderr: &mut E, net: &[u8], flt: &[u8]) -> bool
+    ensures { IsTrue result → Appends (O.contents stdout.old) (O.contents stdout.new) (printed net.now flt.now) }
+{
     let mut out = page();
     let end = answer(&mut out, net, flt);
     console::print(
@@ -48,7 +52,7 @@ fn show<O: Write, E: Write>(stdout: &mut O, stderr: &mut E, net: &[u8], flt: &[u
         stderr,
         &out[..end],
         b"short: the answer could not be written to standard output\n",
-    );
+    )
 }
 
 fn main(rt: HostRuntime) {
