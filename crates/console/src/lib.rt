@@ -1,4 +1,4 @@
-// What the programs for a rigger's hand share: network.bin is read, and a text is printed.
+// What the programs share: network.bin or standard input is read, and a text is printed.
 // A read that fails counts as the end of what is read: a missing file, or a directory, is an empty network. A write that fails is said on standard error, and
 // the scripts at the top end with 1 then.
 #![tactic(auto)]
