@@ -1,4 +1,4 @@
-// `solve`, `write` and `earth` for programs in C and Rust: the three functions of the archive, and their answers as C lays them out.
+// `solve`, `write` and `earth` for programs in C and Rust: the three functions that `ranjupeli_c` exports, and their answers as C lays them out.
 #![tactic(auto)]
 ghost use Rattle.std.specs.Prelude.{◌≡◌, length};
 ghost use Rattle.paper.specs.Answer.{verdict, written};
@@ -49,8 +49,7 @@ pub(crate) fn laid_out(a: Answer) -> Reply
 }
 
 // Any network, any fault, any buffer: nothing is asked of the caller but that what it lends is there.
-#[unsafe(no_mangle)]
-pub extern "C" fn ranjupeli_solve(net: &[u8], flt: &[u8], buffer: &mut [i64]) -> Reply
+pub fn ranjupeli_solve(net: &[u8], flt: &[u8], buffer: &mut [i64]) -> Reply
     ensures value { result ≡ reply_of (verdict net.now flt.now (length buffer.old)) }
     ensures buffer_after { buffer.new ≡ written net.now flt.now buffer.old }
 {
@@ -78,8 +77,7 @@ pub(crate) fn laid_out_write(w: Written) -> WriteReply
 }
 
 // Any numbers, any boards, any buffer: nothing is asked of the caller but that what it lends is there.
-#[unsafe(no_mangle)]
-pub extern "C" fn ranjupeli_write(
+pub fn ranjupeli_write(
     volts: u16,
     unit: u16,
     boards: &[Board],
@@ -143,8 +141,7 @@ pub(crate) fn laid_out_earth(e: EarthReturn) -> EarthReply
 }
 
 // Any network, any label: nothing is asked of the caller but that what it lends is there.
-#[unsafe(no_mangle)]
-pub extern "C" fn ranjupeli_earth(net: &[u8], label: &[u8]) -> EarthReply
+pub fn ranjupeli_earth(net: &[u8], label: &[u8]) -> EarthReply
     ensures { result ≡ earth_reply_of (earth_said net.now label.now) }
 {
     let e = return_path::earth(net, label);
