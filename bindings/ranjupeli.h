@@ -2,9 +2,9 @@
  * the file of a network, written from its boards or refused by the same rules;
  * and the record that a board's earth return comes from, or the one that stops it.
  *
- * Link target/staticlib/libranjupeli.a (`rt staticlib ranjupeli` proves and writes it) into a program for x86-64 Linux.
+ * Link target/staticlib/libranjupeli.a (tools/archive proves and writes it) into a program for x86-64 Linux.
  * It has three functions, ranjupeli_solve, ranjupeli_write and ranjupeli_earth. What they do is proved:
- * crates/ranjupeli/src/lib.rt has their contracts, docs/CONTRACTS.md says them in words; docs/FORMAT.md explains the fields and
+ * crates/ranjupeli_c/src/lib.rt has their contracts, docs/CONTRACTS.md says them in words; docs/FORMAT.md explains the fields and
  * what to do about a refusal.
  *
  * Limits, and what the caller answers for (nothing can prove it of C):

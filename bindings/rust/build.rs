@@ -14,7 +14,7 @@ fn main() {
     }
     if !archive.is_file() {
         stop(format!(
-            "{} is missing: 'rt staticlib ranjupeli' in the top folder of the repository proves it and writes target/staticlib/libranjupeli.a; \
+            "{} is missing: tools/archive in the repository proves it and writes target/staticlib/libranjupeli.a; \
              RANJUPELI_LIB names another folder that has it",
             archive.display()
         ));
