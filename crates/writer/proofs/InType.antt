@@ -1,9 +1,10 @@
--- What its type says of a board (`Typed`): no caller can lend others (`LentOn`, `typed_boards`). Assumes nothing.
-use mathlib.Core.List.{List, [], ◌∷◌, map, map-id}
-use mathlib.Core.Path.{◌≡◌, sym, ◌∙◌, ap}
-use Prim.Native.Nat.{ℕ, zero, suc}
+-- What its type says of a board (`Typed`), read off what a function has of a board that it is passed (`lay::typed`), and so of each of a list's. Assumes nothing.
+use mathlib.Core.List.{List, [], ◌∷◌, ◌++◌}
+use mathlib.Core.Path.{◌≡◌}
+use native.Mathlib.Numerals.{add-one}
+use Prim.Native.Nat.{ℕ, zero, suc, ◌+◌, ◌<◌}
 use native.Mathlib.Omega.{arith}
-use lib.ListN.{length, take}
+use lib.ListN.{length, take, get_or, replicate}
 use package.mir.Val.{Val}
 use denote.Laws.{Is}
 use denote.Array.{Array}
@@ -23,8 +24,8 @@ ohms_in_type : (z : Ohms) (vs : List Val) → Is O.the_row z vs → AtMost 65535
 ohms_in_type z vs g = let w = LL.owed O.the_type O'.the_laws z vs g in record { r_most = omega (arith, w.0.1); x_most = omega (arith, w.1.0.1) }
 
 -- a label as it lies in a board
-twelve : (l : List ℕ) (vs : List Val) → Is (Array u8 12) (map (λ (k : ℕ). k) l) vs → length l ≡ 12
-twelve l vs p = sym (ap length (map-id l)) ∙ p.1.0.1
+twelve : (l : List ℕ) (vs : List Val) → Is (Array u8 12) l vs → length l ≡ 12
+twelve l vs p = p.1.0.1
 
 pub board_in_type : (d : Board) (vs : List Val) → Is T.the_row d vs → Typed d
 board_in_type d vs g =
@@ -42,3 +43,21 @@ pub all_take : (n : ℕ) (ys : Boards) → AllTyped ys → AllTyped (take n ys)
 all_take zero ys t = tt
 all_take (suc n) [] t = tt
 all_take (suc n) (y ∷ ys) (t, ts) = (t, all_take n ys ts)
+
+pub all_append : (xs ys : Boards) → AllTyped xs → AllTyped ys → AllTyped (xs ++ ys)
+all_append [] ys t u = u
+all_append (x ∷ xs) ys (t, ts) u = (t, all_append xs ys ts u)
+
+pub all_same : (n : ℕ) (d : Board) → Typed d → AllTyped (replicate n d)
+all_same zero d t = tt
+all_same (suc n) d t = (t, all_same n d t)
+
+-- one more of the first
+one_more : (i : ℕ) (ys : Boards) (d : Board) → i < length ys → AllTyped (take i ys) → Typed (get_or ys i d) → AllTyped (take (suc i) ys)
+one_more zero [] d h ts t = tt
+one_more zero (y ∷ ys) d h ts t = (t, tt)
+one_more (suc i) [] d h ts t = tt
+one_more (suc i) (y ∷ ys) d h (u, us) t = (u, one_more i ys d (omega arith) us t)
+
+pub all_more : (i : ℕ) (ys : Boards) (d : Board) → i < length ys → AllTyped (take i ys) → Typed (get_or ys i d) → AllTyped (take (i + 1) ys)
+all_more i ys d h ts t = rw (add-one i) (one_more i ys d h ts t)

@@ -44,7 +44,7 @@ said_within n = go (dec_le n 65535)
     go (yes h) = let e : min 65535 n ≡ n = omega arith in ap (λ (m : ℕ). leb 1 m && leb m 256) e
     go (no h) = simp (lt-leb (min 65535 n) 256 (omega arith), lt-leb n 256 (omega arith), le-leb 1 (min 65535 n) (omega arith), le-leb 1 n (omega arith))
 
-abbrev head_said : ℕ → ℕ → ℕ → Head
+abbrev pub head_said : ℕ → ℕ → ℕ → Head
 head_said volts unit n = record { volts = volts; unit = unit; boards = min 65535 n }
 
 -- what the call answers by a refusal, of any boards that the page holds

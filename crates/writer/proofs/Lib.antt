@@ -10,11 +10,5 @@ pub mod InType
 -- the code: the boards laid down on a page, the file judged there, its answers
 mod Laid
 mod Judged
--- in walks: the page lent on, and the calls that it is lent to
-mod LentOn
-mod PutBoard
-mod PageCalls
--- a call of `write` in a walk
-pub mod Calls
 -- answers that it rules out
 mod RuledOut

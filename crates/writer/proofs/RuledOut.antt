@@ -7,8 +7,8 @@ use lib.Dec.{T, eqb, leb, leb→le, lit≤}
 use lib.ListN.{length, take, replicate}
 use borrow.Author.Tests.{eq-eqb}
 use base.Fml.{Lft}
-use denote.Ref.{Bor}
-use Rattle.lemmas.proofs.RuledOut.{◌↛◌, RuledOut, ever, ends, by, by_equation, list, lent}
+use denote.MutBor.{MutBor}
+use Rattle.lemmas.proofs.RuledOut.{◌↛◌, RuledOut, ever, ends, by, by_equation, list, lent_out}
 use Rattle.paper.specs.declared.Board.{Board}
 use Rattle.paper.specs.declared.Head.{Head}
 use Rattle.paper.specs.declared.Written.{Written}
@@ -65,13 +65,13 @@ bd_without = bd "HALL" "GEN" 4 11 (ohms 0 0) (ohms 0 0) (ohms 0 20) (ohms 0 0)
 
 -- ---- a call with n boards and a buffer, and its answer
 abbrev Call : Type 0
-Call = ℕ × (ℕ × (ℕ × (List Board × (Bor (List ℕ) × Unit {0}))))
+Call = ℕ × (ℕ × (ℕ × (List Board × (MutBor (List ℕ) × Unit {0}))))
 
 abbrev given : ℕ → List ℕ → Call
-given n out = (230, (1000, (n, (boards, (lent out, tt)))))
+given n out = (230, (1000, (n, (boards, (lent_out out, tt)))))
 
 abbrev given_two : List Board → List ℕ → Call
-given_two bs out = (230, (1000, (2, (bs, (lent out, tt)))))
+given_two bs out = (230, (1000, (2, (bs, (lent_out out, tt)))))
 
 abbrev said : ℕ → ℕ → ℕ → Written
 said number place len = record { part = no_part; len = len; place = place; number = number }
@@ -110,19 +110,19 @@ small = board "hall" "gen" 3 0 (ohms 1 2) (ohms 1 2) (ohms 3 4) (ohms 5 6)
 
 module _ (κ : Lft) where
   pub put_board_not : RuledOut (put-board.Pre (κ, tt)) (leaves (put-board.Post (κ, tt))) (
-      (lent (dots 44), (0, (hall, tt))) ↛ (44, bd "GEN" "HALL" 3 0 (ohms 1 2) (ohms 1 2) (ohms 3 4) (ohms 5 6))  -- feeder_for_label
-      ∷ (lent (dots 44), (0, (hall, tt))) ↛ (44, bd "HALL" "GEN" 3 0 (ohms 1 2) (ohms 1 2) (ohms 5 6) (ohms 3 4))  -- zn_for_z0
-      ∷ (lent (dots 44), (0, (hall, tt))) ↛ (44, bd "HALL" "GEN" 0 3 (ohms 1 2) (ohms 1 2) (ohms 3 4) (ohms 5 6))  -- clock_for_kind
-      ∷ (lent (dots 44), (0, (small, tt))) ↛ (44, bd "HALL" "gen" 3 0 (ohms 1 2) (ohms 1 2) (ohms 3 4) (ohms 5 6))  -- label_in_capitals
-      ∷ (lent (dots 44), (0, (small, tt))) ↛ (44, bd "hall" "GEN" 3 0 (ohms 1 2) (ohms 1 2) (ohms 3 4) (ohms 5 6))  -- feeder_in_capitals
+      (lent_out (dots 44), (0, (hall, tt))) ↛ (44, bd "GEN" "HALL" 3 0 (ohms 1 2) (ohms 1 2) (ohms 3 4) (ohms 5 6))  -- feeder_for_label
+      ∷ (lent_out (dots 44), (0, (hall, tt))) ↛ (44, bd "HALL" "GEN" 3 0 (ohms 1 2) (ohms 1 2) (ohms 5 6) (ohms 3 4))  -- zn_for_z0
+      ∷ (lent_out (dots 44), (0, (hall, tt))) ↛ (44, bd "HALL" "GEN" 0 3 (ohms 1 2) (ohms 1 2) (ohms 3 4) (ohms 5 6))  -- clock_for_kind
+      ∷ (lent_out (dots 44), (0, (small, tt))) ↛ (44, bd "HALL" "gen" 3 0 (ohms 1 2) (ohms 1 2) (ohms 3 4) (ohms 5 6))  -- label_in_capitals
+      ∷ (lent_out (dots 44), (0, (small, tt))) ↛ (44, bd "hall" "GEN" 3 0 (ohms 1 2) (ohms 1 2) (ohms 3 4) (ohms 5 6))  -- feeder_in_capitals
       ∷ [])
   unfolding write_open typed_open
   put_board_not = by_room (λ b. board_bytes b.0) tt tt
 
   pub put_head_not : RuledOut (put-head.Pre (κ, tt)) (leaves (put-head.Post (κ, tt))) (
-      (lent (dots 8), (0, (said_head, tt))) ↛ (8, head 1000 230 3)  -- unit_for_volts
-      ∷ (lent (dots 8), (0, (said_head, tt))) ↛ (8, head 230 3 1000)  -- boards_for_unit
-      ∷ (lent (dots 9), (0, (said_head, tt))) ↛ (8, head 230 1000 3 ++ (0 ∷ []))  -- byte_behind_the_head_cleared
+      (lent_out (dots 8), (0, (said_head, tt))) ↛ (8, head 1000 230 3)  -- unit_for_volts
+      ∷ (lent_out (dots 8), (0, (said_head, tt))) ↛ (8, head 230 3 1000)  -- boards_for_unit
+      ∷ (lent_out (dots 9), (0, (said_head, tt))) ↛ (8, head 230 1000 3 ++ (0 ∷ []))  -- byte_behind_the_head_cleared
       ∷ [])
   unfolding write_open typed_open
   put_head_not = by_room (λ b. head_bytes b.0) tt tt
@@ -155,10 +155,10 @@ abbrev page : List ℕ
 page = replicate 8 0 ++ (bd_gen ++ replicate 11220 0)
 
 abbrev OnIt : Type 0
-OnIt = ℕ × (ℕ × (ℕ × (Bor (List ℕ) × (Bor (List ℕ) × Unit {0}))))
+OnIt = ℕ × (ℕ × (ℕ × (MutBor (List ℕ) × (MutBor (List ℕ) × Unit {0}))))
 
 abbrev judged : List ℕ → OnIt
-judged out = (230, (1000, (1, (lent page, (lent out, tt)))))
+judged out = (230, (1000, (1, (lent_out page, (lent_out out, tt)))))
 
 abbrev answers : Written → List ℕ → Written × OnIt
 answers w later = (w, judged later)

@@ -3,6 +3,7 @@
 ghost use Rattle.std.specs.Prelude.{◌≡◌, min, take};
 ghost use Rattle.paper.specs.Write.{ohms_bytes, head_bytes, board_bytes, boards_bytes};
 ghost use Rattle.decimal.specs.Wrote.{Room, Wrote};
+ghost use Rattle.writer.specs.RoundTrip.{Typed, AllTyped};
 
 use decimal::little::put_two;
 use decimal::{put_byte, put_bytes};
@@ -62,6 +63,23 @@ pub(crate) fn at_most_256(n: usize) -> usize
     ensures { result ≡ min 256 n }
 {
     if n < 256 { n } else { 256 }
+}
+
+// What its type says of a board. A callee that takes it by value can say so; the slice that it lies in does not.
+fn typed(b: Board)
+    ensures { Typed b }
+{}
+
+// And so of as many as a page has places for. Nothing is done with them: only a proof wants this call.
+pub(crate) fn typed_boards(boards: &[Board])
+    ensures { AllTyped (take 256 boards.now) }
+{
+    let n = at_most_256(boards.len());
+    let mut i: usize = 0;
+    while i < n {
+        typed(boards[i]);
+        i += 1;
+    }
 }
 
 // A board a turn, straight from the boards lent. Of more than 256 the rest is left: their count alone refuses them.

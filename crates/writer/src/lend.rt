@@ -5,7 +5,7 @@ ghost use Rattle.paper.specs.Write.{write_verdict, write_leaves};
 use crate::write;
 use paper::{Board, Written};
 
-// Of the first n boards of a table. Whoever calls this needs no walk.
+// Of the first n boards of a table.
 pub fn write_first(volts: u16, unit: u16, n: usize, boards: [Board; 372], out: &mut [u8]) -> Written
     requires { n ≤ 372 }
     ensures value { result ≡ write_verdict volts unit (take n boards) (length out.old) }

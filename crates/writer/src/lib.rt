@@ -1,5 +1,6 @@
 // The network file, written: volts, unit and decoded boards to the bytes that the reader reads, or the refusal that the reader would give.
 #![tactic(auto)]
+
 mod lay;
 pub mod lend;
 mod page;
@@ -7,7 +8,7 @@ mod page;
 ghost use Rattle.std.specs.Prelude.{◌≡◌, length};
 ghost use Rattle.paper.specs.Write.{write_verdict, write_leaves};
 
-use crate::lay::put_boards;
+use crate::lay::{put_boards, typed_boards};
 use crate::page::{blank, write_page};
 use paper::{Board, Written};
 
@@ -17,6 +18,7 @@ pub fn write(volts: u16, unit: u16, boards: &[Board], out: &mut [u8]) -> Written
     ensures out_after { out.new ≡ write_leaves volts unit boards.now out.old }
 {
     let n = boards.len();
+    typed_boards(boards);
     // One page, lent to both: the boards lie on it straight from the caller's, and no table of them is made.
     let mut file = blank();
     put_boards(&mut file, 8, boards);
