@@ -1,5 +1,6 @@
 // What a board gets from its chain, as the crates above pass it to each other: as a struct, and as a row of numbers that can be lent.
 #![tactic(auto)]
+
 ghost use Rattle.std.specs.Prelude.{◌≡◌, ◌<◌, get_or, set};
 ghost use Rattle.node.specs.Node.{no_node};
 ghost use Rattle.node.specs.Rows.{row_of, node_in, nodes_in};

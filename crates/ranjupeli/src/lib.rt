@@ -1,5 +1,6 @@
 // `solve`, `write` and `earth` for programs in C and Rust: the three functions that `ranjupeli_c` exports, and their answers as C lays them out.
 #![tactic(auto)]
+
 ghost use Rattle.std.specs.Prelude.{◌≡◌, length};
 ghost use Rattle.paper.specs.Answer.{verdict, written};
 ghost use Rattle.paper.specs.Write.{write_verdict, write_leaves};
@@ -77,12 +78,7 @@ pub(crate) fn laid_out_write(w: Written) -> WriteReply
 }
 
 // Any numbers, any boards, any buffer: nothing is asked of the caller but that what it lends is there.
-pub fn ranjupeli_write(
-    volts: u16,
-    unit: u16,
-    boards: &[Board],
-    out: &mut [u8],
-) -> WriteReply
+pub fn ranjupeli_write(volts: u16, unit: u16, boards: &[Board], out: &mut [u8]) -> WriteReply
     ensures value { result ≡ write_reply_of (write_verdict volts unit boards.now (length out.old)) }
     ensures out_after { out.new ≡ write_leaves volts unit boards.now out.old }
 {
