@@ -143,35 +143,35 @@ pub labelled_not : RuledOut (labelled.Pre tt) (ever (labelled.Post tt)) (
 unfolding bytes_open
 labelled_not = by_equation (λ a. same_bytes a.1.0 a.0.label) bool (λ a z e s. s) (tt, (tt, (tt, tt))) tt
 
-pub lookup_not : RuledOut (lookup.Pre tt) (ever (lookup.Post tt)) (
-    (boards, (2, (letter 65, tt))) ↛ 0  -- find_from_second
-    ∷ (boards, (2, (letter 66, tt))) ↛ 1  -- find_counts_from_0
-    ∷ (boards, (3, (letter 65, tt))) ↛ 3  -- find_last
-    ∷ (boards, (2, (letter 67, tt))) ↛ 4  -- lookup_all_256
-    ∷ (boards, (3, (letter 67, tt))) ↛ 4  -- lookup_one_more
-    ∷ (boards, (2, (letter 98, tt))) ↛ 2  -- find_in_either_case
-    ∷ [])
-unfolding places_open bytes_open
-lookup_not =
-    by_equation (λ a. spelt_at a.1.1.0 (take a.1.0 a.0)) (λ n. n) (λ a z e s. s)
-    (omega arith, (omega arith, (omega arith, (omega arith, (omega arith, (omega arith, tt)))))) tt
-
-pub lookup_all_not : RuledOut (lookup-all.Pre tt) (ever (lookup-all.Post tt)) (
-    (boards, (2, tt)) ↛ places 0 (0 ∷ 1 ∷ []) (1 ∷ 2 ∷ [])  -- find_all_exchanged
-    ∷ (boards, (2, tt)) ↛ places 0 (0 ∷ 2 ∷ []) (0 ∷ 1 ∷ [])  -- find_all_from_second
-    ∷ (boards, (2, tt)) ↛ places 0 (0 ∷ 1 ∷ []) (0 ∷ 1 ∷ [])  -- find_all_own_of_feeder
-    ∷ (boards, (2, tt)) ↛ places 1 (1 ∷ 2 ∷ []) (0 ∷ 1 ∷ [])  -- find_all_pads_with_1
-    ∷ (boards, (2, tt)) ↛ places_with spelt_at boards  -- lookup_all_all_256
-    ∷ (boards, (3, tt)) ↛ places 0 (0 ∷ 1 ∷ 2 ∷ []) (1 ∷ 2 ∷ 1 ∷ [])  -- lookup_all_exchanged
-    ∷ (typed, (4, tt)) ↛ places 0 (1 ∷ 2 ∷ 3 ∷ 2 ∷ []) (0 ∷ 0 ∷ 2 ∷ 1 ∷ [])  -- own_in_either_case
-    ∷ (typed, (4, tt)) ↛ places 0 (1 ∷ 2 ∷ 3 ∷ 4 ∷ []) (0 ∷ 1 ∷ 2 ∷ 1 ∷ [])  -- feeder_in_either_case
-    ∷ [])
-unfolding places_open bytes_open
-lookup_all_not =
-    by_equation (λ a. places_with spelt_at (take a.1.0 a.0)) (λ p. list (of_places p)) (λ a z e s. s)
-    (omega arith, (omega arith, (omega arith, (omega arith, (omega arith, (omega arith, (omega arith, (omega arith, tt)))))))) tt
-
 module _ (κ : Lft) where
+  pub lookup_not : RuledOut (lookup.Pre (κ, tt)) (ever (lookup.Post (κ, tt))) (
+      (lent boards, (2, (letter 65, tt))) ↛ 0  -- find_from_second
+      ∷ (lent boards, (2, (letter 66, tt))) ↛ 1  -- find_counts_from_0
+      ∷ (lent boards, (3, (letter 65, tt))) ↛ 3  -- find_last
+      ∷ (lent boards, (2, (letter 67, tt))) ↛ 4  -- lookup_all_256
+      ∷ (lent boards, (3, (letter 67, tt))) ↛ 4  -- lookup_one_more
+      ∷ (lent boards, (2, (letter 98, tt))) ↛ 2  -- find_in_either_case
+      ∷ [])
+  unfolding places_open bytes_open
+  lookup_not =
+      by_equation (λ a. spelt_at a.1.1.0 (take a.1.0 a.0.now)) (λ n. n) (λ a z e s. s)
+      (omega arith, (omega arith, (omega arith, (omega arith, (omega arith, (omega arith, tt)))))) tt
+
+  pub lookup_all_not : RuledOut (lookup-all.Pre (κ, tt)) (ever (lookup-all.Post (κ, tt))) (
+      (lent boards, (2, tt)) ↛ places 0 (0 ∷ 1 ∷ []) (1 ∷ 2 ∷ [])  -- find_all_exchanged
+      ∷ (lent boards, (2, tt)) ↛ places 0 (0 ∷ 2 ∷ []) (0 ∷ 1 ∷ [])  -- find_all_from_second
+      ∷ (lent boards, (2, tt)) ↛ places 0 (0 ∷ 1 ∷ []) (0 ∷ 1 ∷ [])  -- find_all_own_of_feeder
+      ∷ (lent boards, (2, tt)) ↛ places 1 (1 ∷ 2 ∷ []) (0 ∷ 1 ∷ [])  -- find_all_pads_with_1
+      ∷ (lent boards, (2, tt)) ↛ places_with spelt_at boards  -- lookup_all_all_256
+      ∷ (lent boards, (3, tt)) ↛ places 0 (0 ∷ 1 ∷ 2 ∷ []) (1 ∷ 2 ∷ 1 ∷ [])  -- lookup_all_exchanged
+      ∷ (lent typed, (4, tt)) ↛ places 0 (1 ∷ 2 ∷ 3 ∷ 2 ∷ []) (0 ∷ 0 ∷ 2 ∷ 1 ∷ [])  -- own_in_either_case
+      ∷ (lent typed, (4, tt)) ↛ places 0 (1 ∷ 2 ∷ 3 ∷ 4 ∷ []) (0 ∷ 1 ∷ 2 ∷ 1 ∷ [])  -- feeder_in_either_case
+      ∷ [])
+  unfolding places_open bytes_open
+  lookup_all_not =
+      by_equation (λ a. places_with spelt_at (take a.1.0 a.0.now)) (λ p. list (of_places p)) (λ a z e s. s)
+      (omega arith, (omega arith, (omega arith, (omega arith, (omega arith, (omega arith, (omega arith, (omega arith, tt)))))))) tt
+
   pub places_in_not : RuledOut (places-in.Pre (κ, tt)) (ever (places-in.Post (κ, tt))) (
       (lent net, (4, (letter 97, tt))) ↛ answers 0  -- asked_as_typed
       ∷ (lent net, (4, (letter 66, tt))) ↛ answers 4  -- asked_last

@@ -41,14 +41,14 @@ pub(crate) fn find_all(boards: &[Board]) -> Places
 }
 
 // Of the first n boards of a table.
-pub(crate) fn lookup_all(table: [Board; 256], n: usize) -> Places
+pub(crate) fn lookup_all(table: &[Board; 256], n: usize) -> Places
     requires { n ≤ 256 }
-    ensures { result ≡ places_with spelt_at (take n table) }
+    ensures { result ≡ places_with spelt_at (take n table.now) }
 {
     find_all(&table[..n])
 }
 
-// The boards stay here: decoded in capitals, and searched. One function fills the table and passes it on, with no early return, so that the compiler makes no copy of it.
+// The boards stay here: decoded in capitals, and searched. One function fills the table and lends it: a table that is passed is copied.
 pub fn places_in(net: &[u8], n: usize, label: [u8; 12]) -> Found
     requires { (n ≡ (head_of net.now).boards) × (n ≤ 256) × (length net.now ≡ 8 + 44 * n) }
     ensures { result ≡ found_in (boards_of net.now) label }
@@ -65,8 +65,8 @@ pub fn places_in(net: &[u8], n: usize, label: [u8; 12]) -> Found
         i += 1;
     }
     let wanted = in_capitals(label);
-    let places = lookup_all(boards, n);
-    let k = lookup(boards, n, wanted);
+    let places = lookup_all(&boards, n);
+    let k = lookup(&boards, n, wanted);
     Found {
         places,
         asked: k as u16,

@@ -33,9 +33,9 @@ pub(crate) fn find(boards: &[Board], label: [u8; 12]) -> usize
 }
 
 // Of the first n boards of a table.
-pub(crate) fn lookup(table: [Board; 256], n: usize, label: [u8; 12]) -> usize
+pub(crate) fn lookup(table: &[Board; 256], n: usize, label: [u8; 12]) -> usize
     requires { n ≤ 256 }
-    ensures { result ≡ spelt_at label (take n table) }
+    ensures { result ≡ spelt_at label (take n table.now) }
 {
     find(&table[..n], label)
 }
