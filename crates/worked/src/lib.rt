@@ -6,7 +6,7 @@ ghost use Rattle.lemmas.specs.Small.{Small};
 ghost use Rattle.lemmas.specs.Over.{over};
 ghost use Rattle.worked.specs.Four.{four_of};
 
-// An overflow need.
+// An overflow, answered by computation.
 pub fn less_square(a: i64, b: i64) -> i64
     requires { (Small (2 ^ 62) a) × (Small (2 ^ 30) b) }
     ensures { result ≡ a -ℤ b *ℤ b }
