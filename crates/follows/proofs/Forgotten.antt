@@ -1,6 +1,6 @@
 -- 02, R-6: the statements of specs/ (`Forgotten`), proved of all three entry points. Assumes nothing.
---     1 got, got-file       no board is forgotten: answer and buffer are those by the table without the row 21
---     2 named, named-file   the first that is stands at place r: 21 there, or a rule that the table has before it
+--     1 got, got_file       no board is forgotten: answer and buffer are those by the table without the row 21
+--     2 named, named_file   the first that is stands at place r: 21 there, or a rule that the table has before it
 use mathlib.Core.Bool.{Bool, true, false, cond}
 use mathlib.Core.List.{List, [], ◌∷◌, ◌++◌, map, map-id, append_assoc}
 use mathlib.Core.Option.{Option, none, some}

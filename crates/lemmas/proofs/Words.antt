@@ -1,4 +1,4 @@
--- Signed words of 64 bits: the needs that ask whether a computed number fits, and what is read back of one that was stored.
+-- Signed words of 64 bits: the goals that ask whether a computed number fits, and what is read back of one that was stored.
 -- An expression of words is a value of `E`. What the machine computes for it stores each part and reads it back; a computed test
 -- on the parts' bounds then says that every part fits, and so that the machine's number is the one that the expression means.
 -- Assumes nothing.
@@ -129,7 +129,7 @@ near k (a ⊖ b) t =
     difference (near k a g.0) (near k b g.1) h.0
 near k (⊝ a) t = opposite (near k a t)
 
--- ---- the two answers: a need's, and what is read back at the end
+-- ---- the two answers: such a goal's, and what is read back at the end
 pub fits : (k : List Known) (e : E ℤ) → T (ok k e) → SFits w64 (mach k e)
 fits k e t = fit (near k e t)
 

@@ -1,8 +1,8 @@
 -- 02, R-1, the theorems beside the contract of `write` (which is `write_verdict` and `write_leaves`). Assumes nothing.
---     1 read-back       "Reading what was written gives the same boards"
---     2 written-again   "writing what was read gives the same bytes"
---     3 refused-alike   "The writer refuses .. exactly the boards whose file the reader would refuse", with its number and place (in Alike.antt); too_many, where no file could say so many
---     4 nothing_written, behind-kept, as_long   "A refusal writes nothing, and bytes after the file keep their values."
+--     1 read_back       "Reading what was written gives the same boards"
+--     2 written_again   "writing what was read gives the same bytes"
+--     3 refused_alike   "The writer refuses .. exactly the boards whose file the reader would refuse", with its number and place (in Alike.antt); too_many, where no file could say so many
+--     4 nothing_written, behind_kept, as_long   "A refusal writes nothing, and bytes after the file keep their values."
 use mathlib.Core.Bool.{false, not}
 use mathlib.Core.List.{List, [], ◌∷◌, ◌++◌}
 use mathlib.Core.Option.{Option, none, some}
