@@ -12,7 +12,7 @@ use Rattle.node.specs.declared.Node.{Node}
 use Rattle.node.specs.Node.{no_node}
 use Rattle.node.specs.Rows.{row_of, node_in, nodes_in}
 use Rattle.node.proofs.index.Reads as index
-use Rattle.node.proofs.node_at.Reads as Node-at
+use Rattle.node.proofs.node_at.Reads as node_at_call
 use Rattle.node.proofs.put_node.Reads as put-node
 
 pub index_not : RuledOut (index.Pre tt) (ever (index.Post tt)) (
@@ -29,7 +29,7 @@ abbrev node : Ohms → Ohms → Ohms → ℕ → ℕ → ℕ → ℕ → Node
 node z1 z2 z0 f h s t = record { z1 = z1; z2 = z2; z0 = z0; feeder = f; head = h; start = s; turn = t }
 
 module _ (κ : Lft) where
-  pub node_at_not : RuledOut (Node-at.Pre (κ, tt)) (ever (Node-at.Post (κ, tt))) (
+  pub node_at_not : RuledOut (node_at_call.Pre (κ, tt)) (ever (node_at_call.Post (κ, tt))) (
       (lent rows, (1, tt)) ↛ node (ohms 1 2) (ohms 3 4) (ohms 5 6) 0 1 1 0  -- node_before
       ∷ (lent rows, (1, tt)) ↛ node (ohms 13 14) (ohms 11 12) (ohms 15 16) 1 1 1 11  -- sequences_exchanged
       ∷ (lent rows, (0, tt)) ↛ node (ohms 1 2) (ohms 3 4) (ohms 5 6) 1 0 1 0  -- head_for_feeder

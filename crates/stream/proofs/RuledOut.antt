@@ -27,7 +27,7 @@ use Rattle.stream.specs.Case.{case_of, marks, byte_marks}
 use Rattle.stream.specs.Layout.{three_of, whose_of, part_of, found_of, head_of, elements_of, bytes_of, written_of}
 use Rattle.stream.specs.Said.{shown_of, said_of}
 use Rattle.stream.proofs.solved.put_answer.Reads as put-answer
-use Rattle.stream.proofs.written.put_written.Reads as Put-written
+use Rattle.stream.proofs.written.put_written.Reads as put_written_call
 use Rattle.stream.proofs.said.put_said.Reads as put-said
 use Rattle.stream.proofs.case.case_of.Reads as case-of
 use Rattle.stream.proofs.case.boards_of.Reads as boards-of
@@ -111,7 +111,7 @@ module _ (κ : Lft) where
   mark_bytes_not = by (λ z. list z.1.0.now) (λ a. list (byte_marks (length a.0.now))) (λ a z s i. list (s i)) (tt, (tt, (tt, tt))) tt
 
 module _ (κ κ' : Lft) where
-  pub put_written_not : RuledOut (Put-written.Pre (κ, (κ', tt))) (leaves (Put-written.Post (κ, (κ', tt)))) (
+  pub put_written_not : RuledOut (put_written_call.Pre (κ, (κ', tt))) (leaves (put_written_call.Post (κ, (κ', tt)))) (
       (dots 30, (0, (written, (output, tt)))) ↛ (30, fours (2 ∷ 9 ∷ 1 ∷ 2 ∷ 5 ∷ 4 ∷ 2 ∷ []) ++ (7 ∷ 8 ∷ []))  -- place_for_number_written
       ∷ (dots 30, (0, (written, (output, tt)))) ↛ (30, fours (9 ∷ 2 ∷ 2 ∷ 2 ∷ 5 ∷ 4 ∷ 2 ∷ []) ++ (7 ∷ 8 ∷ []))  -- room_for_the_file
       ∷ (dots 30, (0, (written, (output, tt)))) ↛ (29, fours (9 ∷ 2 ∷ 1 ∷ 2 ∷ 5 ∷ 4 ∷ 1 ∷ []) ++ (7 ∷ 46 ∷ []))  -- file_alone

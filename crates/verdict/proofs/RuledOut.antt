@@ -17,7 +17,7 @@ use Rattle.paper.proofs.Compare.{ordinal}
 use Rattle.lemmas.proofs.RuledOut.{◌↛◌, RuledOut, ever, by, by_equation, list}
 use Rattle.verdict.specs.Shown.{lent}
 use Rattle.verdict.specs.Said.{part_said}
-use Rattle.verdict.proofs.refused.Reads as IsRefused-as
+use Rattle.verdict.proofs.refused.Reads as refused_call
 use Rattle.verdict.proofs.accepted.Reads as accepted
 use Rattle.verdict.proofs.shown.shown.Reads as shown
 use Rattle.verdict.proofs.said.part_said.Reads as part-said
@@ -46,7 +46,7 @@ abbrev told : ℕ → ℕ → List ℕ → ℕ
 told block place s = list (block ∷ place ∷ s)
 
 -- ---- the contracts
-pub refused_not : RuledOut (IsRefused-as.Pre tt) (ever (IsRefused-as.Post tt)) (
+pub refused_not : RuledOut (refused_call.Pre tt) (ever (refused_call.Post tt)) (
     (why, tt) ↛ answer 0 (part FaultBytes 3 4) 0 0 5  -- place_dropped
     ∷ (why, tt) ↛ answer 0 (part NetworkBytes 0 8) 2 0 5  -- part_dropped
     ∷ (why, tt) ↛ answer 0 (part FaultBytes 3 4) 2 1 5  -- refused_with_n
