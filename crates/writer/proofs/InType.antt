@@ -1,10 +1,11 @@
 -- What its type says of a board (`Typed`), read off what a function has of a board that it is passed (`lay::typed`), and so of each of a list's. Assumes nothing.
-use mathlib.Core.List.{List, [], ◌∷◌, ◌++◌}
-use mathlib.Core.Path.{◌≡◌}
+use mathlib.Core.List.{List, [], ◌∷◌}
+use mathlib.Core.Path.{◌≡◌, subst}
 use native.Mathlib.Numerals.{add-one}
-use Prim.Native.Nat.{ℕ, zero, suc, ◌+◌, ◌<◌}
+use Prim.Native.Nat.{ℕ, zero, suc, ◌+◌, ◌<◌, ◌≤◌}
 use native.Mathlib.Omega.{arith}
-use lib.ListN.{length, take, get_or, replicate}
+use lib.ListN.{length, take, get_or}
+use lib.Seq.{take_all}
 use package.mir.Val.{Val}
 use denote.Laws.{Is}
 use denote.Array.{Array}
@@ -44,14 +45,6 @@ all_take zero ys t = tt
 all_take (suc n) [] t = tt
 all_take (suc n) (y ∷ ys) (t, ts) = (t, all_take n ys ts)
 
-pub all_append : (xs ys : Boards) → AllTyped xs → AllTyped ys → AllTyped (xs ++ ys)
-all_append [] ys t u = u
-all_append (x ∷ xs) ys (t, ts) u = (t, all_append xs ys ts u)
-
-pub all_same : (n : ℕ) (d : Board) → Typed d → AllTyped (replicate n d)
-all_same zero d t = tt
-all_same (suc n) d t = (t, all_same n d t)
-
 -- one more of the first
 one_more : (i : ℕ) (ys : Boards) (d : Board) → i < length ys → AllTyped (take i ys) → Typed (get_or ys i d) → AllTyped (take (suc i) ys)
 one_more zero [] d h ts t = tt
@@ -61,3 +54,7 @@ one_more (suc i) (y ∷ ys) d h (u, us) t = (u, one_more i ys d (omega arith) us
 
 pub all_more : (i : ℕ) (ys : Boards) (d : Board) → i < length ys → AllTyped (take i ys) → Typed (get_or ys i d) → AllTyped (take (i + 1) ys)
 all_more i ys d h ts t = rw (add-one i) (one_more i ys d h ts t)
+
+-- the first as many as there are
+pub all_of : (n : ℕ) (ys : Boards) → length ys ≤ n → AllTyped (take n ys) → AllTyped ys
+all_of n ys h t = subst AllTyped (take_all n ys h) t

@@ -70,13 +70,12 @@ fn typed(b: Board)
     ensures { Typed b }
 {}
 
-// And so of as many as a page has places for. Nothing is done with them: only a proof wants this call.
+// And so of every slice of boards that is lent. Nothing is done with them: only a proof wants this call, and the compiler leaves it out.
 pub(crate) fn typed_boards(boards: &[Board])
-    ensures { AllTyped (take 256 boards.now) }
+    ensures { AllTyped boards.now }
 {
-    let n = at_most_256(boards.len());
     let mut i: usize = 0;
-    while i < n {
+    while i < boards.len() {
         typed(boards[i]);
         i += 1;
     }
