@@ -6,10 +6,16 @@ use Prim.Native.Nat.{ℕ, zero, suc, ◌+◌, ◌<◌, ◌≤◌}
 use native.Mathlib.Omega.{arith}
 use lib.ListN.{length, take, get_or}
 use lib.Seq.{take_all}
+use base.Fml.{Lft}
+use package.mir.Syntax.{Lifetime, w8, w16}
 use package.mir.Val.{Val}
 use denote.Laws.{Is}
+use denote.Known.{Says, Known, All, Says-shadow, Says-first, Says-map, uint_known, struct_known, declared_known, shr_slice_known}
+use denote.Bor.{Bor}
+use denote.Slice.{ShrSlice}
 use denote.Array.{Array}
 use denote.Builtin.{u8}
+use denote.Struct.Declared.{shape}
 use denote.Struct.Laws as LL
 use Rattle.paper.specs.declared.Ohms.{Ohms}
 use Rattle.paper.specs.declared.Board.{Board}
@@ -58,3 +64,35 @@ all_more i ys d h ts t = rw (add-one i) (one_more i ys d h ts t)
 -- the first as many as there are
 pub all_of : (n : ℕ) (ys : Boards) → length ys ≤ n → AllTyped (take n ys) → AllTyped ys
 all_of n ys h t = subst AllTyped (take_all n ys h) t
+
+-- ---- and whoever has a `&[Board]` knows so of each of its boards, in every model: no caller can lend others
+abbrev known_ohms : Known O.the_field.row
+known_ohms = struct_known (shape O.the_type) (uint_known w16, (uint_known w16, tt))
+
+abbrev known_label : Known (Array u8 12)
+known_label = record {
+  Fact = λ l. length l ≡ 12;
+  owned = λ l vs. Says-shadow ((Array u8 12).own_val l vs) (twelve l vs);
+  shared = λ l b o κ. Says-first _ _ (Says-shadow _ (λ s. s));
+}
+
+abbrev known_board : Known T.the_row
+known_board = declared_known T.the_type (known_ohms, (known_ohms, (known_ohms, (known_ohms, (known_label, (known_label, (uint_known w8, (uint_known w8, tt))))))))
+
+known_typed : (d : Board) → known_board.Fact d → Typed d
+known_typed d (z1, (z2, (z0, (zn, (label, (feeder, _)))))) =
+    record {
+      label_12 = label;
+      feeder_12 = feeder;
+      z1_word = record { r_most = omega (arith, z1.0); x_most = omega (arith, z1.1.0) };
+      z2_word = record { r_most = omega (arith, z2.0); x_most = omega (arith, z2.1.0) };
+      z0_word = record { r_most = omega (arith, z0.0); x_most = omega (arith, z0.1.0) };
+      zn_word = record { r_most = omega (arith, zn.0); x_most = omega (arith, zn.1.0) };
+    }
+
+known_all : (ys : Boards) → All known_board.Fact ys → AllTyped ys
+known_all [] a = tt
+known_all (y ∷ ys) a = (known_typed y (a 0 y (omega arith)), known_all ys (λ i d h. a (suc i) d (omega arith)))
+
+pub typed_boards : (ℓ : Lifetime) (κ : Lft) (x : Bor (List Board)) (vs : List Val) → Says ((ShrSlice ℓ κ T.the_row).own_val x vs) (AllTyped x.now)
+typed_boards ℓ κ x vs = Says-map _ (known_all x.now) ((shr_slice_known T.the_row known_board ℓ κ).owned x vs)
