@@ -58,3 +58,75 @@ pub fn print<O: Write, E: Write>(out: &mut O, err: &mut E, text: &[u8], failed: 
     let _ = err.write_all(failed);
     false
 }
+
+#[cfg(test)]
+mod tests {
+    use super::*;
+    use std::io;
+    use std::io::{Error, ErrorKind};
+
+    // A byte a read, and then a failure.
+    #[derive(Drop)]
+    struct Drips {
+        left: u8,
+    }
+
+    impl Read for Drips {
+        fn read(&mut self, buf: &mut [u8]) -> io::Result<usize> {
+            if self.left == 0 {
+                return Err(Error::from(ErrorKind::Other));
+            }
+            if buf.is_empty() {
+                return Ok(0);
+            }
+            buf[0] = self.left;
+            self.left -= 1;
+            Ok(1)
+        }
+    }
+
+    // Takes a byte, and then nothing more.
+    #[derive(Drop)]
+    struct Full {
+        has: bool,
+    }
+
+    impl Write for Full {
+        fn write(&mut self, buf: &[u8]) -> io::Result<usize> {
+            if self.has || buf.is_empty() {
+                return Ok(0);
+            }
+            self.has = true;
+            Ok(1)
+        }
+
+        fn flush(&mut self) -> io::Result<()> {
+            Ok(())
+        }
+    }
+
+    #[test]
+    fn a_failed_read_is_the_end(rt: HostRuntime) {
+        for (left, n, want) in [(0, 0, [0, 0, 0]), (2, 2, [2, 1, 0]), (5, 3, [5, 4, 3])] {
+            let mut space = [0; 3];
+            assert_eq!(rt; read_full(&mut Drips { left }, &mut space), n, "of {left}");
+            assert_eq!(rt; space, want, "of {left}");
+        }
+    }
+
+    #[test]
+    fn a_failed_write_is_said(rt: HostRuntime) {
+        let mut said = Vec::new(rt.alloc());
+        assert!(rt; !print(&mut Full { has: false }, &mut said, b"HD", b"not written"));
+        assert_eq!(rt; said.as_slice(), b"not written".as_slice());
+    }
+
+    #[test]
+    fn a_text_is_written_and_nothing_said(rt: HostRuntime) {
+        let mut out = Vec::new(rt.alloc());
+        let mut said = Vec::new(rt.alloc());
+        assert!(rt; print(&mut out, &mut said, b"HD", b"not written"));
+        assert_eq!(rt; out.as_slice(), b"HD".as_slice());
+        assert!(rt; said.is_empty());
+    }
+}
