@@ -1,5 +1,5 @@
 -- The text lies on the page, and what is printed is the text.
-use Rattle.std.proofs.Common.{◌≡◌, ◌≤◌, List, ℕ, arith, length, take, sym, ap, ◌∙◌, subst, length-take-le, zero-add}
+use Rattle.std.proofs.Common.{◌≡◌, List, ℕ, arith, length, take, sym, ap, ◌∙◌, subst, length-take-le, zero-add}
 use lib.Seq.{take-append_seam}
 use Rattle.std.specs.Io.KnownBytes.{Appends}
 use Rattle.decimal.specs.Wrote.{Wrote}

@@ -1,8 +1,7 @@
 -- What is said, the part that it names shown, and all laid down.
-use Rattle.std.proofs.Common.{◌≡◌, ◌≤◌, ℕ, ◌+◌, List, length, arith, sym, ◌∙◌, ap, subst}
+use Rattle.std.proofs.Common.{length, arith, sym, ◌∙◌, ap, subst}
 use Rattle.paper.specs.declared.Part.{Part}
-use Rattle.paper.specs.Return.{Said, said, earth_said}
-use Rattle.stream.specs.Said.{said_of}
+use Rattle.paper.specs.Return.{Said, said}
 use Rattle.stream.proofs.Pieces.{said_length}
 use Rattle.verdict.specs.Said.{part_said}
 use Rattle.verdict.specs.Shown.{Within}

@@ -1,5 +1,5 @@
 -- The marked buffer answered, the part that the answer names shown, and all laid down.
-use Rattle.std.proofs.Common.{◌≡◌, ◌≤◌, ℕ, ◌+◌, ◌*◌, List, length, arith, sym, ap, subst}
+use Rattle.std.proofs.Common.{length, arith, sym, ap, subst}
 use Rattle.paper.specs.declared.Answer.{Answer}
 use Rattle.stream.proofs.Pieces.{bytes_length}
 use Rattle.verdict.specs.Shown.{Within}

@@ -1,5 +1,5 @@
 -- The boards that were brought are written into the marked output, and all is laid down.
-use Rattle.std.proofs.Common.{◌≡◌, ◌≤◌, ℕ, ◌+◌, List, length, arith, ◌∙◌}
+use Rattle.std.proofs.Common.{arith, ◌∙◌}
 use Rattle.decimal.proofs.Writes.{wrote_as}
 use Rattle.paper.specs.Write.{write_verdict, write_leaves}
 use Rattle.stream.specs.Layout.{written_of}
