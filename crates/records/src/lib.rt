@@ -45,9 +45,6 @@ pub fn judge(net: &[u8], n: usize, label: [u8; 12], nodes: &mut [[u16; NUMBERS];
 {
     let found = places_in(net, n, label);
     let asked = found.asked;
-    let places = found.places;
-    let own = places.own;
-    let fed = places.fed;
     let none = no_node();
     let mut i: usize = 0;
     while i < n {
@@ -56,8 +53,8 @@ pub fn judge(net: &[u8], n: usize, label: [u8; 12], nodes: &mut [[u16; NUMBERS];
         let e = a + 44;
         let mark = u16_at(net, a);
         let b = board_of(&net[a..e]);
-        let mine = index(own[i]);
-        let theirs = index(fed[i]);
+        let mine = index(found.places.own[i]);
+        let theirs = index(found.places.fed[i]);
         let feeder = earlier(r, theirs);
         let mut up = none;
         if feeder != 0 {
