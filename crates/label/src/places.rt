@@ -28,16 +28,18 @@ pub(crate) fn find_all(boards: &[Board]) -> Places
     requires { length boards.now ≤ 256 }
     ensures { result ≡ places_with spelt_at boards.now }
 {
-    let mut own = [0u16; 256];
-    let mut fed = [0u16; 256];
+    let mut places = Places {
+        own: [0u16; 256],
+        fed: [0u16; 256],
+    };
     let mut j = 0;
     while j < boards.len() {
         let b = boards[j];
-        own[j] = find(boards, b.label) as u16;
-        fed[j] = find(boards, b.feeder) as u16;
+        places.own[j] = find(boards, b.label) as u16;
+        places.fed[j] = find(boards, b.feeder) as u16;
         j += 1;
     }
-    Places { own, fed }
+    places
 }
 
 // Of the first n boards of a table.

@@ -8,13 +8,13 @@ use Rattle.label.proofs.places.find_all.Goals as goal
 pub loop-j-init : goal.loop-j-init
 loop-j-init c = let bs = c.args.boards.now in (filled_none spelt_at (λ b. b.label) bs, filled_none spelt_at (λ b. b.feeder) bs)
 
-pub overflow_cast-own : goal.overflow_cast-own
-overflow_cast-own c =
+pub overflow_cast-places : goal.overflow_cast-places
+overflow_cast-places c =
     let bs = c.args.boards.now in
     record { fits = omega (arith, c.find.ensures, spelt_most (get_or bs c.loop-j.j no_board).label bs) }
 
-pub overflow_cast-fed : goal.overflow_cast-fed
-overflow_cast-fed c =
+pub overflow_cast-places-in-loop-j : goal.overflow_cast-places-in-loop-j
+overflow_cast-places-in-loop-j c =
     let bs = c.args.boards.now in
     record { fits = omega (arith, c.find-in-loop-j.ensures, spelt_most (get_or bs c.loop-j.j no_board).feeder bs) }
 

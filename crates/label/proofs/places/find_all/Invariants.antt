@@ -5,7 +5,7 @@ use Rattle.label.proofs.Filled.{filled}
 use Rattle.label.proofs.places.find_all.Given as goal
 
 abbrev pub invariant-loop-j : goal.invariant-loop-j
-invariant-loop-j l = (l.own ≡ filled spelt_at (λ b. b.label) l.boards l.j) × (l.fed ≡ filled spelt_at (λ b. b.feeder) l.boards l.j)
+invariant-loop-j l = (l.places.own ≡ filled spelt_at (λ b. b.label) l.boards l.j) × (l.places.fed ≡ filled spelt_at (λ b. b.feeder) l.boards l.j)
 
 abbrev pub decreases-loop-j : goal.decreases-loop-j
 decreases-loop-j l = length l.boards - l.j
