@@ -1,12 +1,12 @@
 -- Each part fits, by one computed test of the bounds.
-use Rattle.std.proofs.Common.{List, [], ◌∷◌, ◌^◌, ℤ}
+use Rattle.std.proofs.Common.{List, [], ◌∷◌, ℕ, ℤ}
 use Rattle.lemmas.specs.Small.{Small}
 use Rattle.lemmas.proofs.Solver.{var, ◌⊖◌, ◌⊗◌}
 use Rattle.lemmas.proofs.Words.{Known, know, fits, reads as read}
 use Rattle.worked.proofs.less_square.Goals as goal
 
 -- the words, with their bounds: a is var 0, b is var 1
-abbrev k : {a b : ℤ} → Small (2 ^ 62) a × Small (2 ^ 30) b → List Known
+abbrev k : {a b : ℤ} {m n : ℕ} → Small m a × Small n b → List Known
 k r = know r.0 ∷ know r.1 ∷ []
 
 pub overflow_mul-result : goal.overflow_mul-result
