@@ -6,7 +6,7 @@ Run once, at the top, right after the toolchain's port.py, before any edit by ha
    of proofs/ defines, nor what Rattle makes), and gives each a name in snake case: lookFrom -> look_from, root-passes -> root_passes;
  - where a definition and a lemma would fall together, the lemma gets _lem behind its name (accepted-network -> accepted_network_lem);
  - it writes the new names into .antt files, into the ghost parts of .rt files and into the pages, there within backticks alone.
-Functions of src/, exported C names, strings, inputs, outputs, types and modules keep their names. The must-fail edits are turned by tools/port_edits.py.
+Functions of src/, exported C names, strings, inputs, outputs, types and modules keep their names. How the must-fail edits were turned stands in docs/PORT.md.
 """
 import os, re, sys, collections, json
 

@@ -202,8 +202,8 @@ abbrev risen : Faulted
 risen = faulted none (neg_n one) (pos 1) 1 0 0 false
 
 -- W1 of 1 with a W0
-abbrev with_zero_lem : Num → List (List ℤ)
-with_zero_lem n = four (power_n 0 +N n) ∷ four (power_n 8 +N n) ∷ four (power_n 4 +N n) ∷ []
+abbrev zero_shown : Num → List (List ℤ)
+zero_shown n = four (power_n 0 +N n) ∷ four (power_n 8 +N n) ∷ four (power_n 4 +N n) ∷ []
 
 abbrev alone : Shared
 alone = record { z1 = ohms 0 0; z2 = ohms 0 0; z0 = ohms 0 0 }
@@ -234,18 +234,18 @@ risen_small = fault_small 0 (omega arith) (each most_i i_nil i_nil i_nil) (plane
 asked : {f : Faulted} → FaultSmall f → (length (found 24).now ≡ 24) × FaultSmall f × ShareSmall alone × (0 ≤ 2816)
 asked h = (refl, h, alone_small, omega arith)
 
-abbrev at_fault_lem : ℕ → MutBor (List ℤ) × (Faulted × Unit {0})
-at_fault_lem turn = (found 13, (forth_at turn, tt))
+abbrev fault_asked : ℕ → MutBor (List ℤ) × (Faulted × Unit {0})
+fault_asked turn = (found 13, (forth_at turn, tt))
 
 abbrev board_call : Faulted → Bool → Node → MutBor (List ℤ) × (Faulted × (Bool × (Node × (Shared × Unit {0}))))
 board_call f on n = (found 24, (f, (on, (n, (alone, tt)))))
 
 module _ (κ : Lft) where
   pub top_not : RuledOut (top.Pre (κ, tt)) (ends (top.Post (κ, tt))) (
-      at_fault_lem 1 ↛ left (at_fault_lem 1) (pos 1 ∷ flat (turns 2 10 6))  -- fault_turned
-      ∷ at_fault_lem 1 ↛ left (at_fault_lem 1) (pos 1 ∷ flat (turns 4 0 8))  -- fault_turned_back
-      ∷ at_fault_lem 0 ↛ left (at_fault_lem 0) (flat (turns 3 11 7) ++ (pos 0 ∷ []))  -- d_overwritten
-      ∷ at_fault_lem 0 ↛ left (at_fault_lem 0) (pos 0 ∷ flat (turns 3 11 7))  -- d_at_place_1
+      fault_asked 1 ↛ left (fault_asked 1) (pos 1 ∷ flat (turns 2 10 6))  -- fault_turned
+      ∷ fault_asked 1 ↛ left (fault_asked 1) (pos 1 ∷ flat (turns 4 0 8))  -- fault_turned_back
+      ∷ fault_asked 0 ↛ left (fault_asked 0) (flat (turns 3 11 7) ++ (pos 0 ∷ []))  -- d_overwritten
+      ∷ fault_asked 0 ↛ left (fault_asked 0) (pos 0 ∷ flat (turns 3 11 7))  -- d_at_place_1
       ∷ [])
   unfolding top_of flat phase_open ◌+N◌ neg_n ◌·N◌ times_t ◌*N◌ power_n
   top_not = by seen (λ a. wholes (top_of a.1.0)) (λ a z s. ap wholes s) (a 1 (omega arith), (a 1 (omega arith), (a 0 (omega arith), (a 0 (omega arith), tt)))) tt
@@ -265,8 +265,8 @@ module _ (κ : Lft) where
       ∷ board_call (earth false) true (node 1 0) ↛ left (board_call (earth false) true (node 1 0)) (flat (turns 0 8 4) ++ flat (turns 0 0 0))  -- i0_without_return
       ∷ board_call risen true (node 1 0) ↛ left (board_call risen true (node 1 0)) (flat (turns 0 8 4) ++ flat nothing)  -- not_lifted
       ∷ board_call risen false (node 1 0) ↛ left (board_call risen false (node 1 0)) (flat (turns 0 8 4) ++ flat nothing)  -- lifted_on_the_chain_only
-      ∷ board_call risen false (node 2 0) ↛ left (board_call risen false (node 2 0)) (flat (with_zero_lem (neg_n one)) ++ flat nothing)  -- lifted_elsewhere
-      ∷ board_call risen true (node 1 0) ↛ left (board_call risen true (node 1 0)) (flat (with_zero_lem one) ++ flat nothing)  -- lowered
+      ∷ board_call risen false (node 2 0) ↛ left (board_call risen false (node 2 0)) (flat (zero_shown (neg_n one)) ++ flat nothing)  -- lifted_elsewhere
+      ∷ board_call risen true (node 1 0) ↛ left (board_call risen true (node 1 0)) (flat (zero_shown one) ++ flat nothing)  -- lowered
       ∷ [])
   unfolding numbers_of left_of passed_of carried_of flat phase_open fault_open ◌+N◌ neg_n ◌·N◌ times_t ◌*N◌ power_n
   board_not =

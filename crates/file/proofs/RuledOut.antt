@@ -27,7 +27,7 @@ use Rattle.file.proofs.field.ohms_at.Reads as ohms-at
 use Rattle.file.proofs.field.label_at.Reads as label_at
 use Rattle.file.proofs.field.label_in.Reads as label-in
 use Rattle.file.proofs.bytes.head_of.Reads as head_of
-use Rattle.file.proofs.bytes.board_of.Reads as board_of_lem
+use Rattle.file.proofs.bytes.board_of.Reads as board_of_call
 use Rattle.file.proofs.bytes.fault_of.Reads as fault-of
 use Rattle.file.proofs.head.head_wrong.Reads as head-wrong
 use Rattle.file.proofs.table.empty_board.Reads as empty-board
@@ -36,8 +36,8 @@ use Rattle.file.proofs.table.empty_board.Reads as empty-board
 abbrev of_head : Head → ℕ
 of_head h = list (h.volts ∷ h.unit ∷ h.boards ∷ [])
 
-abbrev of_board_lem : Board → ℕ
-of_board_lem b = list (b.kind ∷ b.clock ∷ parts b.z1 ++ parts b.z2 ++ parts b.z0 ++ parts b.zn ++ b.label ++ b.feeder)
+abbrev board_told : Board → ℕ
+board_told b = list (b.kind ∷ b.clock ∷ parts b.z1 ++ parts b.z2 ++ parts b.z0 ++ parts b.zn ++ b.label ++ b.feeder)
 
 abbrev of_fault : Fault → ℕ
 of_fault f = list (f.kind ∷ f.phase ∷ parts f.zf ++ f.label)
@@ -89,7 +89,7 @@ pub empty_board_not : RuledOut (empty-board.Pre tt) (ever (empty-board.Post tt))
     tt ↛ empty 0 1  -- empty_place_of_clock_1
     ∷ tt ↛ empty 1 0  -- empty_place_of_kind_1
     ∷ [])
-empty_board_not = by_equation (λ a. empty_board) of_board_lem (λ a z e s. s) (tt, (tt, tt)) tt
+empty_board_not = by_equation (λ a. empty_board) board_told (λ a z e s. s) (tt, (tt, tt)) tt
 
 module _ (κ : Lft) where
   pub label_in_not : RuledOut (label-in.Pre (κ, tt)) (ever (label-in.Post (κ, tt))) (
@@ -127,12 +127,12 @@ module _ (κ : Lft) where
   unfolding head_of
   head_of_not = by_equation (λ a. head_of a.0.now) of_head (λ a z e s. s) (omega arith, (omega arith, tt)) tt
 
-  pub board_of_not : RuledOut (board_of_lem.Pre (κ, tt)) (ever (board_of_lem.Post (κ, tt))) (
+  pub board_of_not : RuledOut (board_of_call.Pre (κ, tt)) (ever (board_of_call.Post (κ, tt))) (
       (lent (bytes 0 44), tt) ↛ board 2 26 27  -- board_feeds_itself
       ∷ (lent (bytes 0 44), tt) ↛ board 14 27 26  -- board_kind_is_the_clock
       ∷ [])
   unfolding board_of bytes_open
-  board_of_not = by_equation (λ a. board_of a.0.now) of_board_lem (λ a z e s. s) (refl, (refl, tt)) tt
+  board_of_not = by_equation (λ a. board_of a.0.now) board_told (λ a z e s. s) (refl, (refl, tt)) tt
 
   pub fault_of_not : RuledOut (fault-of.Pre (κ, tt)) (ever (fault-of.Post (κ, tt))) (
       (lent (bytes 0 20), tt) ↛ fault 15 16  -- fault_kind_is_the_phase

@@ -16,7 +16,7 @@ use Rattle.lemmas.proofs.RuledOut.{◌↛◌, RuledOut, ever, by_equation, bool,
 use Rattle.kind.proofs.impedance.is_zero.Reads as is_zero
 use Rattle.kind.proofs.impedance.same_ohms.Reads as same-ohms
 use Rattle.kind.proofs.impedance.over.Reads as over
-use Rattle.kind.proofs.clock.kind_wrong.Reads as kind_wrong_lem
+use Rattle.kind.proofs.clock.kind_wrong.Reads as kind_wrong_call
 use Rattle.kind.proofs.must_hold.impedance_wrong.Reads as impedance-wrong
 use Rattle.kind.proofs.forgotten.z1_forgotten.Reads as z1-forgotten
 use Rattle.kind.proofs.zero.zero_word.Reads as zero_word
@@ -63,7 +63,7 @@ pub over_not : RuledOut (over.Pre tt) (ever (over.Post tt)) (
 unfolding part_over
 over_not = by_equation (λ a. part_over a.0 a.1.0) bool (λ a z e s. s) (tt, (tt, tt)) tt
 
-pub kind_wrong_not : RuledOut (kind_wrong_lem.Pre tt) (ever (kind_wrong_lem.Post tt)) (
+pub kind_wrong_not : RuledOut (kind_wrong_call.Pre tt) (ever (kind_wrong_call.Post tt)) (
     (2, (turned 5 12, tt)) ↛ false  -- clock_12
     ∷ (2, (turned 4 2, tt)) ↛ false  -- clock_even_in_delta
     ∷ (2, (turned 6 0, tt)) ↛ false  -- kind_6

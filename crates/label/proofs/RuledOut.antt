@@ -15,7 +15,7 @@ use Rattle.label.specs.declared.places.Places.{Places}
 use Rattle.label.specs.declared.places.Found.{Found}
 use Rattle.follows.specs.Capitals.{board_in_capitals}
 use Rattle.label.specs.Places.{spelt_at, places_with, found_in, places_open}
-use Rattle.label.proofs.case.in_capitals.Reads as in_capitals_lem
+use Rattle.label.proofs.case.in_capitals.Reads as in_capitals_call
 use Rattle.label.proofs.case.board_in_capitals.Reads as board-in-capitals
 use Rattle.label.proofs.same_bytes.Reads as same_bytes
 use Rattle.label.proofs.is_spaces.Reads as is-spaces
@@ -75,7 +75,7 @@ abbrev answers : ℕ → Found
 answers asked = found (1 ∷ 2 ∷ 3 ∷ 2 ∷ []) (0 ∷ 1 ∷ 2 ∷ 1 ∷ []) asked
 
 -- ---- the contracts
-pub in_capitals_not : RuledOut (in_capitals_lem.Pre tt) (ever (in_capitals_lem.Post tt)) (
+pub in_capitals_not : RuledOut (in_capitals_call.Pre tt) (ever (in_capitals_call.Post tt)) (
     (replicate 12 0x61, tt) ↛ (replicate 11 0x41 ++ (0x61 ∷ []))  -- last_byte_left
     ∷ (replicate 12 0x61, tt) ↛ (0x41 ∷ replicate 11 0x61)  -- only_the_first_letter
     ∷ (letter 0x7A, tt) ↛ letter 0x7A  -- z_left_out

@@ -23,7 +23,7 @@ use Rattle.records.specs.Rules.{earlier, step_of}
 use Rattle.records.proofs.Reading.{Read, read_none, before, feeder}
 use Rattle.records.proofs.Turn.{b, own, fed, own_read, fed_read, up_read, up_fits, goes_on, refuses, not_kept, all_read}
 use Rattle.records.proofs.judge.Goals as goal
-use Rattle.records.proofs.judge.Goals.{then-feeder-ne0, else-feeder-ne0}
+use Rattle.records.proofs.judge.Goals.{Joined-feeder-ne0, then-feeder-ne0, else-feeder-ne0}
 
 -- i records of the network have passed, and what the search found is all that it was asked for
 record At (net : List ℕ) (l : Label) (i : ℕ) (nodes : List Node) (f : Found) : Type 0 where
@@ -60,54 +60,41 @@ loop-i-init c = (omega arith, subst (Read c.args.net.now 0) (sym c.requires.node
 pub board_of-b-requires : goal.board_of-b-requires
 board_of-b-requires c = part_length c.args.net.now (8 + 44 * c.loop-i.i) (omega arith)
 
-pub step-s-requires : goal.step-s-requires
-step-s-requires c =
-    let a : At c.args.net.now c.args.label c.loop-i.i (nodes_in c.loop-i.nodes) c.places_in-found.result =
-    record { h = omega (arith, c.requires.n_value, c.loop-i-test.true); read = c.loop-i.invariant.1; few = omega (arith, c.requires.n_value); is = c.places_in-found.ensures }
-    in
-    let up =
-    up_good a c.index-theirs.ensures c.earlier-feeder.ensures.0
+-- what a turn knows where the feeder's node is picked, and once the record is judged
+turn : (c : Joined-feeder-ne0) → At c.args.net.now c.args.label c.loop-i.i (nodes_in c.loop-i.nodes) c.places_in-found.result
+turn c = record { h = omega (arith, c.requires.n_value, c.loop-i-test.true); read = c.loop-i.invariant.1; few = omega (arith, c.requires.n_value); is = c.places_in-found.ensures }
+
+up : (c : Joined-feeder-ne0) → let a = turn c in c.if-feeder-ne0.up ≡ node_of (before c.args.net.now c.loop-i.i (nodes_in c.loop-i.nodes) a.h a.read) (feeder c.args.net.now c.loop-i.i (nodes_in c.loop-i.nodes) a.h a.read)
+up c =
+    up_good (turn c) c.index-theirs.ensures c.earlier-feeder.ensures.0
     (elim c.if-feeder-ne0.branch [
       | then-feeder-ne0 w ↦ inl (w.if-feeder-ne0.true, w.up-is ∙ w.node_at-up.ensures)
       | else-feeder-ne0 w ↦ inr (w.if-feeder-ne0.false, w.up-is ∙ c.no_node-none.ensures)
     ])
-    in
-    (omega (arith, c.requires.n_value), up_fits c.args.net.now c.loop-i.i (nodes_in c.loop-i.nodes) a.h a.read a.few up)
+
+pub step-s-requires : goal.step-s-requires
+step-s-requires c =
+    let a = turn c in
+    (omega (arith, c.requires.n_value), up_fits c.args.net.now c.loop-i.i (nodes_in c.loop-i.nodes) a.h a.read a.few (up c))
 
 pub returns-then-number-ne0 : goal.returns-then-number-ne0
 returns-then-number-ne0 c =
-    let a : At c.args.net.now c.args.label c.loop-i.i (nodes_in c.loop-i.nodes) c.places_in-found.result =
-    record { h = omega (arith, c.requires.n_value, c.loop-i-test.true); read = c.loop-i.invariant.1; few = omega (arith, c.requires.n_value); is = c.places_in-found.ensures }
-    in
-    let up =
-    up_good a c.index-theirs.ensures c.earlier-feeder.ensures.0
-    (elim c.if-feeder-ne0.branch [
-      | then-feeder-ne0 w ↦ inl (w.if-feeder-ne0.true, w.up-is ∙ w.node_at-up.ensures)
-      | else-feeder-ne0 w ↦ inr (w.if-feeder-ne0.false, w.up-is ∙ c.no_node-none.ensures)
-    ])
-    in
+    let t = (goal.at.returns-then-number-ne0 c).Joined-feeder-ne0 in
+    let a = turn t in
     let step =
     step_is a c.if-feeder-ne0.up c.step-s.ensures c.u16_at-mark.ensures (c.board_of-b.ensures ∙ ap board_of (part_is c.args.net.now (8 + 44 * c.loop-i.i)))
     c.index-mine.ensures
     c.index-theirs.ensures
     in
     record {
-      value = refuses c.args.net.now c.loop-i.i (nodes_in c.loop-i.nodes) a.h a.read a.few up step c.args.label (its_asked a) c.if-number-ne0.true;
-      nodes_after = not_kept c.args.net.now c.loop-i.i (nodes_in c.loop-i.nodes) a.h a.read a.few up step c.if-number-ne0.true;
+      value = refuses c.args.net.now c.loop-i.i (nodes_in c.loop-i.nodes) a.h a.read a.few (up t) step c.args.label (its_asked a) c.if-number-ne0.true;
+      nodes_after = not_kept c.args.net.now c.loop-i.i (nodes_in c.loop-i.nodes) a.h a.read a.few (up t) step c.if-number-ne0.true;
     }
 
 pub loop-i-preserved : goal.loop-i-preserved
 loop-i-preserved c =
-    let a : At c.args.net.now c.args.label c.loop-i.i (nodes_in c.loop-i.nodes) c.places_in-found.result =
-    record { h = omega (arith, c.requires.n_value, c.loop-i-test.true); read = c.loop-i.invariant.1; few = omega (arith, c.requires.n_value); is = c.places_in-found.ensures }
-    in
-    let up =
-    up_good a c.index-theirs.ensures c.earlier-feeder.ensures.0
-    (elim c.if-feeder-ne0.branch [
-      | then-feeder-ne0 w ↦ inl (w.if-feeder-ne0.true, w.up-is ∙ w.node_at-up.ensures)
-      | else-feeder-ne0 w ↦ inr (w.if-feeder-ne0.false, w.up-is ∙ c.no_node-none.ensures)
-    ])
-    in
+    let t = (goal.at.loop-i-preserved c).Joined-feeder-ne0 in
+    let a = turn t in
     let step =
     step_is a c.if-feeder-ne0.up c.step-s.ensures c.u16_at-mark.ensures (c.board_of-b.ensures ∙ ap board_of (part_is c.args.net.now (8 + 44 * c.loop-i.i)))
     c.index-mine.ensures
@@ -115,7 +102,7 @@ loop-i-preserved c =
     in (
       omega arith,
       subst (Read c.args.net.now (c.loop-i.i + 1)) (sym (ap nodes_in c.put_node.ensures ∙ put_row c.loop-i.nodes c.loop-i.i c.step-s.result.node))
-          (goes_on c.args.net.now c.loop-i.i (nodes_in c.loop-i.nodes) a.h a.read a.few up step c.if-number-ne0.false),
+          (goes_on c.args.net.now c.loop-i.i (nodes_in c.loop-i.nodes) a.h a.read a.few (up t) step c.if-number-ne0.false),
     )
 
 pub returns : goal.returns

@@ -6,6 +6,7 @@ use Rattle.decimal.specs.Wrote.{Wrote}
 use Rattle.paper.specs.Write.{head_bytes}
 use Rattle.writer.proofs.Judged.{head_said, wrong_head, long_fits, behind_fits, HeadPut, head_fits, len_fits, file_long, judged_as, wrong_board, no_room, all_kept, refused, accepted}
 use Rattle.writer.proofs.page.write_page.Goals as goal
+use Rattle.writer.proofs.page.write_page.Goals.{After-put_head-len}
 
 -- ---- the head's test is the paper's
 said_as : (volts unit n : ℕ) {count : ℕ} {wrong b : Bool} → wrong ≡ not (head_ranges (record { volts = volts; unit = unit; boards = count })) → count ≡ min 65535 n → wrong ≡ b → not (head_ranges (head_said volts unit n)) ≡ b
@@ -16,6 +17,10 @@ put : (volts unit n : ℕ) {count end : ℕ} {page later : List ℕ} → not (he
     → Wrote 0 (head_bytes (record { volts = volts; unit = unit; boards = count })) page later end
     → HeadPut volts unit n page later
 put volts unit n kept v u l e w = record { kept = kept; volts_fit = v; unit_fit = u; long = l; k = _; k_is = e; end = _; wrote = w }
+
+-- the file on the page, once the head stands there
+standing : (c : After-put_head-len) → HeadPut c.args.volts c.args.unit c.args.n c.args.file.now c.put_head-len.new.out
+standing c = put c.args.volts c.args.unit c.args.n (said_as _ _ _ c.head_wrong.ensures c.said-count.ensures c.if-head_wrong.false) (omega (arith, c.ranges.volts.fits)) (omega (arith, c.ranges.unit.fits)) c.requires c.said-count.ensures c.put_head-len.ensures
 
 pub returns-then-head_wrong : goal.returns-then-head_wrong
 returns-then-head_wrong c =
@@ -33,43 +38,43 @@ overflow_add-len c = record { fits = long_fits _ _ _ (said_as _ _ _ c.head_wrong
 
 pub slice_bounds-judge-end : goal.slice_bounds-judge-end
 slice_bounds-judge-end c =
-    let h = put c.args.volts c.args.unit c.args.n (said_as _ _ _ c.head_wrong.ensures c.said-count.ensures c.if-head_wrong.false) (omega (arith, c.ranges.volts.fits)) (omega (arith, c.ranges.unit.fits)) c.requires c.said-count.ensures c.put_head-len.ensures in
+    let h = standing (goal.at.slice_bounds-judge-end c).After-put_head-len in
     len_fits h
 
 pub slice_bounds-judge-end-2 : goal.slice_bounds-judge-end-2
 slice_bounds-judge-end-2 c =
-    let h = put c.args.volts c.args.unit c.args.n (said_as _ _ _ c.head_wrong.ensures c.said-count.ensures c.if-head_wrong.false) (omega (arith, c.ranges.volts.fits)) (omega (arith, c.ranges.unit.fits)) c.requires c.said-count.ensures c.put_head-len.ensures in
+    let h = standing (goal.at.slice_bounds-judge-end-2 c).After-put_head-len in
     file_long h
 
 pub judge-judged-requires : goal.judge-judged-requires
 judge-judged-requires c =
-    let h = put c.args.volts c.args.unit c.args.n (said_as _ _ _ c.head_wrong.ensures c.said-count.ensures c.if-head_wrong.false) (omega (arith, c.ranges.volts.fits)) (omega (arith, c.ranges.unit.fits)) c.requires c.said-count.ensures c.put_head-len.ensures in
+    let h = standing (goal.at.judge-judged-requires c).After-put_head-len in
     record { n_value = judged_as h; nodes_value = empty_rows }
 
 pub returns-then-number-ne0 : goal.returns-then-number-ne0
 returns-then-number-ne0 c =
-    let h = put c.args.volts c.args.unit c.args.n (said_as _ _ _ c.head_wrong.ensures c.said-count.ensures c.if-head_wrong.false) (omega (arith, c.ranges.volts.fits)) (omega (arith, c.ranges.unit.fits)) c.requires c.said-count.ensures c.put_head-len.ensures in
+    let h = standing (goal.at.returns-then-number-ne0 c).After-put_head-len in
     let r = refused _ _ _ _ _ (wrong_board h _ _ c.judge-judged.ensures.value c.if-number-ne0.true) c.answered-then-number-ne0.ensures in
     record { value = r.0; out_after = r.1 }
 
 pub returns-then-out-len : goal.returns-then-out-len
 returns-then-out-len c =
-    let h = put c.args.volts c.args.unit c.args.n (said_as _ _ _ c.head_wrong.ensures c.said-count.ensures c.if-head_wrong.false) (omega (arith, c.ranges.volts.fits)) (omega (arith, c.ranges.unit.fits)) c.requires c.said-count.ensures c.put_head-len.ensures in
+    let h = standing (goal.at.returns-then-out-len c).After-put_head-len in
     let r = refused _ _ _ _ _ (no_room h _ _ c.judge-judged.ensures.value c.if-number-ne0.false c.if-out-len.true) c.answered-then-out-len.ensures in
     record { value = r.0; out_after = r.1 }
 
 pub slice_bounds-put_bytes-end : goal.slice_bounds-put_bytes-end
 slice_bounds-put_bytes-end c =
-    let h = put c.args.volts c.args.unit c.args.n (said_as _ _ _ c.head_wrong.ensures c.said-count.ensures c.if-head_wrong.false) (omega (arith, c.ranges.volts.fits)) (omega (arith, c.ranges.unit.fits)) c.requires c.said-count.ensures c.put_head-len.ensures in
+    let h = standing (goal.at.slice_bounds-put_bytes-end c).After-put_head-len in
     len_fits h
 
 pub slice_bounds-put_bytes-end-2 : goal.slice_bounds-put_bytes-end-2
 slice_bounds-put_bytes-end-2 c =
-    let h = put c.args.volts c.args.unit c.args.n (said_as _ _ _ c.head_wrong.ensures c.said-count.ensures c.if-head_wrong.false) (omega (arith, c.ranges.volts.fits)) (omega (arith, c.ranges.unit.fits)) c.requires c.said-count.ensures c.put_head-len.ensures in
+    let h = standing (goal.at.slice_bounds-put_bytes-end-2 c).After-put_head-len in
     file_long h
 
 pub returns : goal.returns
 returns c =
-    let h = put c.args.volts c.args.unit c.args.n (said_as _ _ _ c.head_wrong.ensures c.said-count.ensures c.if-head_wrong.false) (omega (arith, c.ranges.volts.fits)) (omega (arith, c.ranges.unit.fits)) c.requires c.said-count.ensures c.put_head-len.ensures in
+    let h = standing (goal.at.returns c).After-put_head-len in
     let r = accepted _ _ _ _ _ h (all_kept h _ _ c.judge-judged.ensures.value c.if-number-ne0.false c.if-out-len.false) c.put_bytes.ensures c.answered-2.ensures in
     record { value = r.0; out_after = r.1 }
