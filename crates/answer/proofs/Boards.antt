@@ -1,7 +1,6 @@
 -- The pass over the boards, turn by turn: what it knows of a board is the paper's. Assumes nothing.
-use mathlib.Core.Bool.{Bool, true, false, not}
+use mathlib.Core.Bool.{Bool, true, false, not, cond}
 use mathlib.Core.List.{List, ◌++◌, append-nil, append_assoc}
-use mathlib.Core.Logic.{◌⊎◌, inl, inr}
 use mathlib.Core.Path.{◌≡◌, refl, sym, ◌∙◌, ap, subst}
 use Prim.Native.Nat.{ℕ, zero, suc, ◌+◌, ◌*◌, ◌-◌, ◌≤◌, ◌<◌}
 use native.Mathlib.Omega.{arith}
@@ -25,9 +24,7 @@ use Rattle.fits.proofs.Sizes.{Ranged}
 use Rattle.fits.proofs.Fits.{shares_small, the_d_small, the_i_plane, lift_plane}
 use Rattle.node.specs.declared.Node.{Node}
 use Rattle.node.specs.Node.{start_of, node_of, no_node}
-use Rattle.node.specs.Rows.{row_of, nodes_in}
 use Rattle.node.specs.Tables.{nodes_of}
-use Rattle.node.proofs.Rows.{put_row}
 use Rattle.node.proofs.Tables.{table_length, nodes_length, in_table}
 use Rattle.node.proofs.Starts.{starts_nowhere}
 use Rattle.fault.specs.Short.{shorted_of}
@@ -143,17 +140,21 @@ module _ {q : Asked} {nodes : List Node} {n : ℕ} {on : List Bool} {f : Faulted
     pub feeder_before : node.feeder ≤ j
     feeder_before = omega (arith, feeder_is, feeder_earlier boards j)
 
-    pub up_is : {feeder : ℕ} {up : Shared} → feeder ≡ node.feeder → ((feeder ≡ 0 → ⊥) × (up ≡ shared_in (get_or now (feeder - 1) no_node))) ⊎ ((feeder ≡ 0) × (up ≡ no_share))
-        → up ≡ shared_of boards k (feeder_of boards (suc j))
-    up_is {feeder} e (inl (z, u)) =
-        let b = feeder_earlier boards j in
-        let g = feeder_is in
-        let d : suc (feeder - 1) ≡ feeder_of boards (suc j) = omega arith in
-        u ∙ t.passed (feeder - 1) (omega arith) ∙ ap (shared_of boards k) d
-    up_is {feeder} e (inr (z, u)) =
-        let g = feeder_is in
-        let d : 0 ≡ feeder_of boards (suc j) = omega arith in
-        u ∙ sym (share_none boards k) ∙ ap (shared_of boards k) d
+    pub up_is : {up : Shared} → up ≡ cond (eqb node.feeder 0) no_share (shared_in (get_or now (node.feeder - 1) no_node)) → up ≡ shared_of boards k (feeder_of boards (suc j))
+    up_is {up} u = go (eqb node.feeder 0) refl u
+      where
+        go : (c : Bool) → eqb node.feeder 0 ≡ c → up ≡ cond c no_share (shared_in (get_or now (node.feeder - 1) no_node)) → up ≡ shared_of boards k (feeder_of boards (suc j))
+        go true e u =
+            let z = eqb-true node.feeder 0 e in
+            let g = feeder_is in
+            let d : 0 ≡ feeder_of boards (suc j) = omega arith in
+            u ∙ sym (share_none boards k) ∙ ap (shared_of boards k) d
+        go false e u =
+            let z = eqb-false node.feeder 0 e in
+            let b = feeder_earlier boards j in
+            let g = feeder_is in
+            let d : suc (node.feeder - 1) ≡ feeder_of boards (suc j) = omega arith in
+            u ∙ t.passed (node.feeder - 1) (omega arith) ∙ ap (shared_of boards k) d
 
     -- the record is what it is
     pub share_is : {here : Bool} {head : ℕ} {up s : Shared} → here ≡ get_or on j false → head ≡ f.head → up ≡ shared_of boards k (feeder_of boards (suc j)) → s ≡ share_from here node head up → s ≡ shared_of boards k (suc j)
@@ -217,7 +218,3 @@ module _ {q : Asked} {nodes : List Node} {n : ℕ} {on : List Bool} {f : Faulted
 -- a board's part of the buffer
 pub part_length : (a : ℕ) (xs : List ℤ) → a + 24 ≤ length xs → length (take (a + 24 - a) (drop a xs)) ≡ 24
 part_length a xs h = simp (length-take, length-drop) (omega arith)
-
--- a node put into its row, as the nodes that the rows say
-pub puts : (rows : List (List ℕ)) (j : ℕ) {rows' : List (List ℕ)} {passed next : Node} → rows' ≡ set rows j (row_of passed) → passed ≡ next → nodes_in rows' ≡ set (nodes_in rows) j next
-puts rows j {passed = passed} e d = ap nodes_in e ∙ put_row rows j passed ∙ ap (set (nodes_in rows) j) d

@@ -9,36 +9,27 @@ ghost use Rattle.paper.specs.Phase.{Asked};
 ghost use Rattle.paper.specs.Refusal.{answer_size};
 ghost use Rattle.paper.specs.Amps.{amps};
 ghost use Rattle.paper.specs.Answer.{numbers};
-ghost use Rattle.node.specs.Rows.{nodes_in};
 ghost use Rattle.answer.specs.Posed.{Posed};
 
 use crate::pass::boards;
 use amps::amps;
 use board::front::{fault_at, top};
 use chain::chain;
-use node::{NUMBERS, node_at};
+use node::Node;
 use paper::{Fault, Head};
 
 // Of whatever question this is the head, the nodes, the fault and the faulted board's place: its amps, and its numbers from the front of the buffer.
 // The nodes are used up: what is left in them is nobody's.
-pub fn answer(
-    head: Head,
-    nodes: &mut [[u16; NUMBERS]; 256],
-    fault: Fault,
-    k: usize,
-    out: &mut [i64],
-) -> u64
-    requires { (q : Asked) × Posed q head (nodes_in nodes.old) fault k × (answer_size head.boards ≤ length out.old) }
-    ensures value { (q : Asked) → Posed q head (nodes_in nodes.old) fault k → result ≡ amps q }
-    ensures out_after { (q : Asked) → Posed q head (nodes_in nodes.old) fault k → out.new ≡ over 0 (numbers q) out.old }
+pub fn answer(head: Head, nodes: &mut [Node; 256], fault: Fault, k: usize, out: &mut [i64]) -> u64
+    requires { (q : Asked) × Posed q head nodes.old fault k × (answer_size head.boards ≤ length out.old) }
+    ensures value { (q : Asked) → Posed q head nodes.old fault k → result ≡ amps q }
+    ensures out_after { (q : Asked) → Posed q head nodes.old fault k → out.new ≡ over 0 (numbers q) out.old }
 {
-    let n = head.boards as usize;
-    let i = k - 1;
-    let at = node_at(nodes, i);
+    let n = usize::from(head.boards);
+    let at = nodes[k - 1];
     let f = fault_at(at, fault);
     let on = chain(nodes, k);
     top(&mut out[0..13], f);
-    boards(nodes, n, on, f, out);
-    let z2 = at.z2;
-    amps(head.volts, head.unit, z2, f.d, fault.kind, f.earthed)
+    boards(nodes, n, &on, f, out);
+    amps(head.volts, head.unit, at.z2, f.d, fault.kind, f.earthed)
 }

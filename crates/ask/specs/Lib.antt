@@ -1,4 +1,3 @@
 pub mod Ask
 pub mod Question
-pub mod Rules
 pub mod Steps

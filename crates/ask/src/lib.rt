@@ -7,21 +7,17 @@ mod rules;
 ghost use Rattle.std.specs.Prelude.{◌≡◌, ◌≤◌};
 ghost use Rattle.ask.specs.Ask.{ask_of};
 
-use crate::question::{Question, at_board, refused, unread};
-use file::bytes::fault_of;
+use crate::question::{Question, at_board, read_fault};
+use file::field::FAULT;
+use paper::{Lent, Refusal, Rule};
 
-// Bytes that are not read are shown whole: all that there are for 12, the fault's 20 for 13.
-pub fn ask(flt: &[u8], k: u16, n: usize, room: usize) -> Question
+pub fn ask(flt: &[u8], k: u16, n: usize, room: usize) -> Result<Question, Refusal>
     requires { n ≤ 256 }
     ensures { result ≡ ask_of flt.now k n room }
 {
-    let number = unread(flt);
-    if number != 0 {
-        return refused(number, flt.len());
-    }
-    let fault = fault_of(flt);
+    let fault = read_fault(flt)?;
     if k == 0 {
-        return refused(14, 20);
+        return Err(Refusal::at_the_front(Rule::UnknownBoard, Lent::FaultBytes, FAULT));
     }
     at_board(fault, k, n, room)
 }

@@ -1,79 +1,53 @@
 // What asking for a fault gives, and the rules of a fault that need no boards: 12 and 13 of its bytes, 15 to 19 at its board.
 ghost use Rattle.std.specs.Prelude.{◌≡◌, ◌≤◌};
-ghost use Rattle.paper.specs.Bytes.{part};
-ghost use Rattle.paper.specs.declared.Lent.TheVariants.{FaultBytes};
-ghost use Rattle.ask.specs.Question.{refused_question};
-ghost use Rattle.ask.specs.Steps.{unread_by, asked_at};
+ghost use Rattle.paper.specs.File.{fault_of};
+ghost use Rattle.paper.specs.Rows.{first};
+ghost use Rattle.paper.specs.Rule.{or_refused};
+ghost use Rattle.ask.specs.Steps.{unread_rows, asked_at};
 
-use crate::rules::broken;
-use file::field::{FT, u16_at};
-use paper::{Fault, Lent, Ohms, Outcome, Part, Refusal};
+use crate::rules::{phase_wrong, zf_over};
+use file::bytes::fault_of;
+use file::field::{FAULT, FT, u16_at};
+use paper::{Fault, Lent, Refusal, Rule};
 
-// The fault and its board's place are those of the bytes where they are accepted, and zeros where they are refused.
+// An accepted fault, and its board's place.
 #[derive(Clone, Copy)]
 pub struct Question {
-    pub outcome: Outcome,
     pub fault: Fault,
     pub k: u16,
 }
 
-// No rule of a fault has a place. The part is the first bytes of the fault.
-pub(crate) fn refused(number: u8, len: usize) -> Question
-    ensures { result ≡ refused_question (record { part = part FaultBytes 0 len; place = 0; number = number }) }
+// 12 and 13: bytes that are not read are shown whole, all that there are for 12, the fault's 20 for 13.
+#[tactic(auto, unfolding(crate::specs::Steps::unread_rows, paper::specs::Rows::first, paper::specs::Rule::or_refused))]
+pub(crate) fn read_fault(flt: &[u8]) -> Result<Fault, Refusal>
+    ensures { result ≡ or_refused (first (unread_rows flt.now)) (fault_of flt.now) }
 {
-    let part = Part {
-        whose: Lent::FaultBytes,
-        start: 0,
-        len,
-    };
-    let why = Refusal {
-        part,
-        place: 0,
-        number,
-    };
-    let zf = Ohms { r: 0, x: 0 };
-    let label = [0u8; 12];
-    let fault = Fault {
-        zf,
-        label,
-        kind: 0,
-        phase: 0,
-    };
-    Question {
-        outcome: Outcome::Refused(why),
-        fault,
-        k: 0,
-    }
-}
-
-// The number of the first of 12 and 13 that the bytes break, or 0.
-pub(crate) fn unread(flt: &[u8]) -> u8
-    ensures { result ≡ unread_by flt.now }
-{
-    if flt.len() != 20 {
-        return 12;
+    if flt.len() != FAULT {
+        return Err(Refusal::at_the_front(Rule::FaultLength, Lent::FaultBytes, flt.len()));
     }
     if u16_at(flt, 0) != FT {
-        return 13;
+        return Err(Refusal::at_the_front(Rule::FaultMark, Lent::FaultBytes, FAULT));
     }
-    0
+    Ok(fault_of(flt))
 }
 
 // 15 to 19, of a fault at board k of n.
-pub(crate) fn at_board(fault: Fault, k: u16, n: usize, room: usize) -> Question
+#[tactic(auto, unfolding(crate::specs::Steps::asked_at, crate::specs::Steps::board_rows, paper::specs::Rows::first, paper::specs::Rule::or_refused))]
+pub(crate) fn at_board(fault: Fault, k: u16, n: usize, room: usize) -> Result<Question, Refusal>
     requires { n ≤ 256 }
     ensures { result ≡ asked_at fault k n room }
 {
-    let number = broken(fault);
-    if number != 0 {
-        return refused(number, 20);
+    if 3 < fault.kind {
+        return Err(Refusal::at_the_front(Rule::FaultKind, Lent::FaultBytes, FAULT));
+    }
+    if phase_wrong(fault) {
+        return Err(Refusal::at_the_front(Rule::FaultPhase, Lent::FaultBytes, FAULT));
+    }
+    if zf_over(fault) {
+        return Err(Refusal::at_the_front(Rule::FaultImpedance, Lent::FaultBytes, FAULT));
     }
     if room < 13 + 24 * n {
-        return refused(19, 0);
+        return Err(Refusal::at_the_front(Rule::ShortBuffer, Lent::FaultBytes, 0));
     }
-    Question {
-        outcome: Outcome::Accepted,
-        fault,
-        k,
-    }
+    Ok(Question { fault, k })
 }

@@ -1,19 +1,22 @@
 // A case that asks `earth`.
-ghost use Rattle.std.specs.Prelude.{◌≡◌, ◌+◌, ◌≤◌, length};
+ghost use Rattle.std.specs.Prelude.{◌≡◌, ◌+◌, ◌≤◌, length, IfOk};
 ghost use Rattle.decimal.specs.Wrote.{Wrote};
 ghost use Rattle.paper.specs.Return.{earth_said};
 ghost use Rattle.stream.specs.Said.{said_of};
 ghost use Rattle.verdict.specs.Said.{part_said};
 ghost use Rattle.verdict.specs.Shown.{shown_bytes};
 
-use crate::read;
+use crate::desk::{Cut, Desk, Most, PAGE};
+use decimal::Pen;
 use std::io::Read;
 use stream::case::Case;
 
-// The most bytes of the network and of the label.
-const NETWORK: usize = 16400;
-
-const LABEL: usize = 64;
+// There is no use for room. The most bytes of the network and of the label.
+const MOST: Most = Most {
+    room: 0,
+    first: 16400,
+    second: 64,
+};
 
 // All that the program does between reading and writing.
 fn answer<'a>(out: &mut [u8], net: &'a [u8], label: &'a [u8]) -> usize
@@ -26,30 +29,19 @@ fn answer<'a>(out: &mut [u8], net: &'a [u8], label: &'a [u8]) -> usize
     let given = return_path::earth(net, label);
     let part = verdict::said::part_said(given);
     let bytes = verdict::shown::shown(net, label, part);
-    stream::said::put_said(out, 0, given, bytes)
+    let mut pen = Pen { out, at: 0 };
+    stream::said::put_said(&mut pen, given, bytes);
+    pen.at
 }
 
-// How many bytes the answer has. None: the case lends room, for which there is no use, or says too much, or is cut off.
-pub(crate) fn case<R: Read>(stdin: &mut R, asked: Case, parts: &mut [u8], out: &mut [u8]) -> usize
-    requires parts_len { 16464 ≡ length parts.old }
-    requires out_len { 67636 ≡ length out.old }
-    ensures { result ≤ 67636 }
-{
-    let room = asked.room;
-    let n = asked.first;
-    let m = asked.second;
-    if 0 < room {
-        return 0;
+impl Desk {
+    // How many bytes the answer has.
+    pub(crate) fn earth<R: Read>(&mut self, stdin: &mut R, asked: Case) -> Result<usize, Cut>
+        ensures { IfOk result (λ n. n ≤ PAGE) }
+    {
+        self.read(stdin, asked, MOST)?;
+        let e = asked.first + asked.second;
+        let (net, label) = self.parts[..e].split_at(asked.first);
+        Ok(answer(&mut self.page, net, label))
     }
-    if NETWORK < n {
-        return 0;
-    }
-    if LABEL < m {
-        return 0;
-    }
-    let e = n + m;
-    if !read(stdin, parts, e) {
-        return 0;
-    }
-    answer(out, &parts[0..n], &parts[n..e])
 }

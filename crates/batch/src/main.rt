@@ -15,14 +15,14 @@
 // At the end of the input END and a line's end; where a case is cut off, asks another entry point, or says a length that it may not have, CUT and a line's end; after BUDGET cases BUDG.
 #![tactic(auto)]
 
+mod desk;
 mod earthing;
 mod solving;
 mod writing;
 
-ghost use Rattle.std.specs.Prelude.{◌≡◌, ◌≤◌, length};
-
+use crate::desk::{BUFFER, Cut, Desk, FILE, PAGE, PARTS};
 use std::io::{Read, Write};
-use stream::case::Case;
+use stream::case::{Case, case_of};
 
 // Every run ends, whoever feeds it.
 const BUDGET: u32 = 1000000;
@@ -30,52 +30,29 @@ const BUDGET: u32 = 1000000;
 // The bytes of a case's four numbers.
 const NUMBERS: usize = 16;
 
-const SOLVE: usize = 1;
+enum Entry {
+    Solve,
+    Write,
+    Earth,
+}
 
-const WRITE: usize = 2;
+impl TryFrom<usize> for Entry {
+    type Error = Cut;
 
-const EARTH: usize = 3;
+    fn try_from(number: usize) -> Result<Entry, Cut> {
+        match number {
+            1 => Ok(Entry::Solve),
+            2 => Ok(Entry::Write),
+            3 => Ok(Entry::Earth),
+            _ => Err(Cut),
+        }
+    }
+}
 
-// Why a run ends.
-#[derive(Clone, Copy)]
+// Why a run ends that is not cut.
 enum End {
     Input,
-    Cut,
     Budget,
-}
-
-// What is lent again for every case: its four numbers, its two parts, the buffer of one that solves, the output of one that writes, and its answer's bytes.
-// The contracts give only the lengths, which lending needs.
-fn four() -> [u8; 16]
-    ensures { 16 ≡ length result }
-{
-    [0; 16]
-}
-
-// The longest network, and the longest fault or label. Boards to be written, and volts and unit, are shorter.
-fn parts() -> [u8; 16464]
-    ensures { 16464 ≡ length result }
-{
-    [0; 16464]
-}
-
-fn elements() -> [i64; 6400]
-    ensures { 6400 ≡ length result }
-{
-    [0; 6400]
-}
-
-fn output() -> [u8; 16400]
-    ensures { 16400 ≡ length result }
-{
-    [0; 16400]
-}
-
-// An answer of `solve` with the longest network shown and the largest buffer, 36 + 16400 + 8 * 6400; the others' are shorter.
-fn page() -> [u8; 67636]
-    ensures { 67636 ≡ length result }
-{
-    [0; 67636]
 }
 
 // A write that fails is said on standard error.
@@ -88,114 +65,46 @@ fn say<O: Write, E: Write>(stdout: &mut O, stderr: &mut E, text: &[u8]) {
     );
 }
 
-// The two parts of a case, e bytes together: whether they were all there.
-pub(crate) fn read<R: Read>(stdin: &mut R, parts: &mut [u8], e: usize) -> bool
-    requires { e ≤ length parts.old }
-{
-    let got = console::read_full(stdin, &mut parts[0..e]);
-    e <= got
-}
-
-// How many bytes the answer has. None: the case is not whole, or is none that is answered here.
-fn answer<R: Read>(
-    stdin: &mut R,
-    asked: Case,
-    parts: &mut [u8],
-    buffer: &mut [i64],
-    file: &mut [u8],
-    out: &mut [u8],
-) -> usize
-    requires parts_len { 16464 ≡ length parts.old }
-    requires buffer_len { 6400 ≡ length buffer.old }
-    requires file_len { 16400 ≡ length file.old }
-    requires out_len { 67636 ≡ length out.old }
-    ensures { result ≤ 67636 }
-{
-    let entry = asked.entry;
-    match entry {
-        SOLVE => solving::case(stdin, asked, parts, buffer, out),
-        WRITE => writing::case(stdin, asked, parts, file, out),
-        EARTH => earthing::case(stdin, asked, parts, out),
-        _ => 0,
-    }
-}
-
-// One write for a case. Whether it was whole, and its answer written.
+// One write for a case.
 fn case<R: Read, W: Write>(
     stdin: &mut R,
     stdout: &mut W,
-    head: &[u8],
-    parts: &mut [u8],
-    buffer: &mut [i64],
-    file: &mut [u8],
-    out: &mut [u8],
-) -> bool
-    requires head_len { 16 ≡ length head.now }
-    requires parts_len { 16464 ≡ length parts.old }
-    requires buffer_len { 6400 ≡ length buffer.old }
-    requires file_len { 16400 ≡ length file.old }
-    requires out_len { 67636 ≡ length out.old }
-{
-    let asked = stream::case::case_of(head);
-    let end = answer(stdin, asked, parts, buffer, file, out);
-    if end == 0 {
-        return false;
-    }
-    stdout.write_all(&out[..end]).is_ok()
+    desk: &mut Desk,
+    asked: Case,
+) -> Result<(), Cut> {
+    let end = match Entry::try_from(asked.entry)? {
+        Entry::Solve => desk.solve(stdin, asked)?,
+        Entry::Write => desk.write(stdin, asked)?,
+        Entry::Earth => desk.earth(stdin, asked)?,
+    };
+    stdout.write_all(&desk.page[..end])?;
+    Ok(())
 }
 
-fn run<R: Read, W: Write>(
-    stdin: &mut R,
-    stdout: &mut W,
-    head: &mut [u8],
-    parts: &mut [u8],
-    buffer: &mut [i64],
-    file: &mut [u8],
-    out: &mut [u8],
-) -> End
-    requires head_len { 16 ≡ length head.old }
-    requires parts_len { 16464 ≡ length parts.old }
-    requires buffer_len { 6400 ≡ length buffer.old }
-    requires file_len { 16400 ≡ length file.old }
-    requires out_len { 67636 ≡ length out.old }
-{
-    let mut done: u32 = 0;
-    while done < BUDGET {
-        let got = console::read_full(stdin, head);
-        if got == 0 {
-            return End::Input;
+fn run<R: Read, W: Write>(stdin: &mut R, stdout: &mut W, desk: &mut Desk) -> Result<End, Cut> {
+    let mut head = [0; NUMBERS];
+    for _ in 0..BUDGET {
+        match console::read_full(stdin, &mut head) {
+            0 => return Ok(End::Input),
+            NUMBERS => case(stdin, stdout, desk, case_of(&head))?,
+            _ => return Err(Cut),
         }
-        if got < NUMBERS {
-            return End::Cut;
-        }
-        if !case(stdin, stdout, head, parts, buffer, file, out) {
-            return End::Cut;
-        }
-        done += 1;
     }
-    End::Budget
+    Ok(End::Budget)
 }
 
 fn main(rt: HostRuntime) {
-    let mut head = four();
-    let mut space = parts();
-    let mut buffer = elements();
-    let mut file = output();
-    let mut out = page();
+    let mut desk = Desk {
+        parts: [0; PARTS],
+        buffer: [0; BUFFER],
+        file: [0; FILE],
+        page: [0; PAGE],
+    };
     let mut stdout = rt.stdout();
     let mut stderr = rt.stderr();
-    let end = run(
-        &mut rt.stdin(),
-        &mut stdout,
-        &mut head,
-        &mut space,
-        &mut buffer,
-        &mut file,
-        &mut out,
-    );
-    match end {
-        End::Input => say(&mut stdout, &mut stderr, b"END\n"),
-        End::Cut => say(&mut stdout, &mut stderr, b"CUT\n"),
-        End::Budget => say(&mut stdout, &mut stderr, b"BUDG"),
+    match run(&mut rt.stdin(), &mut stdout, &mut desk) {
+        Ok(End::Input) => say(&mut stdout, &mut stderr, b"END\n"),
+        Ok(End::Budget) => say(&mut stdout, &mut stderr, b"BUDG"),
+        Err(Cut) => say(&mut stdout, &mut stderr, b"CUT\n"),
     }
 }

@@ -1,5 +1,5 @@
 // A case that asks `write`.
-ghost use Rattle.std.specs.Prelude.{◌≡◌, ◌+◌, ◌*◌, ◌≤◌, length};
+ghost use Rattle.std.specs.Prelude.{◌≡◌, ◌+◌, ◌*◌, ◌≤◌, length, IfOk};
 ghost use Rattle.decimal.specs.Wrote.{Wrote};
 ghost use Rattle.paper.specs.Bytes.{u16_at};
 ghost use Rattle.paper.specs.File.{records, decoded};
@@ -7,21 +7,25 @@ ghost use Rattle.paper.specs.Write.{write_verdict, write_leaves};
 ghost use Rattle.stream.specs.Case.{byte_marks};
 ghost use Rattle.stream.specs.Layout.{written_of};
 
-use crate::read;
+use crate::desk::{Cut, Desk, Most, PAGE};
+use decimal::Pen;
 use file::field::u16_at;
 use std::io::Read;
 use stream::case::{Case, boards_of};
 
-// The most bytes of the output, the most boards, the bytes of each, and the bytes of volts and unit.
-const ROOM: usize = 16400;
-
-const BOARDS: usize = 372;
-
+// The bytes of a board, and those of volts and unit.
 const BOARD: usize = 44;
 
 const HEAD: usize = 4;
 
-// All that the program does between reading and writing.
+// The most bytes of the output, the most boards.
+const MOST: Most = Most {
+    room: 16400,
+    first: 372 * BOARD,
+    second: HEAD,
+};
+
+// All that the program does between reading and writing. n is the caller's quotient: else it would be divided again.
 fn answer(out: &mut [u8], boards: &[u8], n: usize, head: &[u8], file: &mut [u8]) -> usize
     requires boards_len { (length boards.now ≡ 44 * n) × (n ≤ 372) }
     requires head_len { length head.now ≡ 4 }
@@ -33,48 +37,25 @@ fn answer(out: &mut [u8], boards: &[u8], n: usize, head: &[u8], file: &mut [u8])
     let bs = boards_of(boards, n);
     let volts = u16_at(head, 0);
     let unit = u16_at(head, 2);
-    let given = writer::lend::write_first(volts, unit, n, bs, file);
-    stream::written::put_written(out, 0, given, file)
+    let given = writer::write(volts, unit, &bs[..n], file);
+    let mut pen = Pen { out, at: 0 };
+    stream::written::put_written(&mut pen, given, file);
+    pen.at
 }
 
-// How many bytes the answer has. None: the case says too much, its first part is not whole boards or its second not volts and unit, or it is cut off.
-pub(crate) fn case<R: Read>(
-    stdin: &mut R,
-    asked: Case,
-    parts: &mut [u8],
-    file: &mut [u8],
-    out: &mut [u8],
-) -> usize
-    requires parts_len { 16464 ≡ length parts.old }
-    requires file_len { 16400 ≡ length file.old }
-    requires out_len { 67636 ≡ length out.old }
-    ensures { result ≤ 67636 }
-{
-    let room = asked.room;
-    let first = asked.first;
-    let second = asked.second;
-    let n = first / BOARD;
-    if ROOM < room {
-        return 0;
+impl Desk {
+    // How many bytes the answer has. Cut too where the first part is not whole boards, or the second not volts and unit.
+    pub(crate) fn write<R: Read>(&mut self, stdin: &mut R, asked: Case) -> Result<usize, Cut>
+        ensures { IfOk result (λ n. n ≤ PAGE) }
+    {
+        let first = asked.first;
+        if first % BOARD != 0 || asked.second != HEAD {
+            return Err(Cut);
+        }
+        self.read(stdin, asked, MOST)?;
+        let (boards, head) = self.parts[..first + HEAD].split_at(first);
+        let file = &mut self.file[..];
+        let lent = &mut file[..asked.room];
+        Ok(answer(&mut self.page, boards, first / BOARD, head, lent))
     }
-    if BOARDS < n {
-        return 0;
-    }
-    if first != BOARD * n {
-        return 0;
-    }
-    if second != HEAD {
-        return 0;
-    }
-    let e = first + second;
-    if !read(stdin, parts, e) {
-        return 0;
-    }
-    answer(
-        out,
-        &parts[0..first],
-        n,
-        &parts[first..e],
-        &mut file[0..room],
-    )
 }

@@ -35,3 +35,7 @@ phases_nothing p sj sk =
 pub passed_nothing : (p sj sk : ℕ) (i : Seq) (on here earthed : Bool) → on ≡ false → replicate 12 (pos 0) ≡ flat (phases p sj sk (carried_of on (on && here && earthed) i))
 unfolding carried_of only_if flat
 passed_nothing p sj sk i on here earthed e = ap flat (phases_nothing p sj sk ∙ ap (λ (b : Bool). phases p sj sk (carried_of b (b && here && earthed) i)) (sym e))
+
+-- a part of twelve that is filled with zeros
+pub all_zero : {n : ℕ} {xs : List ℤ} → xs ≡ replicate n (pos 0) → n ≡ 12 → xs ≡ replicate 12 (pos 0)
+all_zero e h = e ∙ ap (λ (n : ℕ). replicate n (pos 0)) h

@@ -4,6 +4,7 @@ use mathlib.Core.List.{List, [], ◌∷◌, ◌++◌}
 use mathlib.Core.Path.{◌≡◌, refl, ap}
 use Prim.Native.Nat.{ℕ, ◌≤◌}
 use native.Mathlib.Omega.{arith}
+use lib.Dec.{lit≤}
 use lib.IntN.{ℤ, pos, negsuc}
 use lib.ListN.{replicate, length}
 use base.Fml.{Lft}
@@ -28,12 +29,12 @@ use Rattle.chain.specs.declared.share.Shared.{Shared}
 use Rattle.chain.specs.Carried.{carried_of}
 use Rattle.fault.specs.Short.{shorted_of}
 use Rattle.board.specs.declared.front.Faulted.{Faulted}
+use Rattle.board.specs.declared.phases.Phase.{Phase}
 use Rattle.board.specs.Put.{shown_at}
 use Rattle.board.specs.Faulted.{faulted_from, top_of, FaultSmall}
 use Rattle.board.specs.Numbers.{left_of, passed_of, numbers_of, ShareSmall}
 use Rattle.board.proofs.phases.phases.Reads as phases-at
 use Rattle.board.proofs.put.phase.Reads as phase-at
-use Rattle.board.proofs.put.nothing.Reads as nothing-at
 use Rattle.board.proofs.front.fault_at.Reads as fault-at
 use Rattle.board.proofs.front.top.Reads as top
 use Rattle.board.proofs.board.Reads as board
@@ -100,18 +101,24 @@ seen z = wholes z.1.0.now
 abbrev counted : Num
 counted = num (pos 1) (pos 2) (pos 3) (pos 4)
 
-abbrev in_b : MutBor (List ℤ) × (ℕ × (Num × Unit {0}))
-in_b = (found 12, (1, (counted, tt)))
+abbrev ph : (n : ℕ) → n ≤ 2 → Phase
+ph n h = record { n = n; of_three = h }
 
-abbrev sevens : MutBor (List ℤ) × Unit {0}
-sevens = (lent_out (replicate 12 (pos 7)), tt)
+abbrev in_b : MutBor (List ℤ) × (Phase × (Num × Unit {0}))
+in_b = (found 12, (ph 1 (lit≤ tt), (counted, tt)))
 
 -- the phases of a board of turn sj, the faulted board's being 0, p the odd one
-abbrev call : ℕ → ℕ → Seq → MutBor (List ℤ) × (ℕ × (ℕ × (ℕ × (Seq × Unit {0}))))
+abbrev call : Phase → ℕ → Seq → MutBor (List ℤ) × (Phase × (ℕ × (ℕ × (Seq × Unit {0}))))
 call p sj x = (found 12, (p, (sj, (0, (x, tt)))))
 
-allowed : {x : Seq} (p s : ℕ) → p ≤ 1 → s ≤ 4 → EachSeq (Plane most_w) x → (length (found 12).now ≡ 12) × (((p ≤ 2) × (s ≤ 2816) × (0 ≤ 2816)) × EachSeq (Plane most_w) x)
-allowed p s h k x = (refl, ((omega (arith, h), omega (arith, k), omega arith), x))
+abbrev a_odd : Phase
+a_odd = ph 0 (lit≤ tt)
+
+abbrev b_odd : Phase
+b_odd = ph 1 (lit≤ tt)
+
+allowed : {x : Seq} (s : ℕ) → s ≤ 4 → EachSeq (Plane most_w) x → ((s ≤ 2816) × (0 ≤ 2816)) × EachSeq (Plane most_w) x
+allowed s k x = ((omega (arith, k), omega arith), x)
 
 module _ (κ : Lft) where
   pub phase_not : RuledOut (phase-at.Pre (κ, tt)) (ends (phase-at.Post (κ, tt))) (
@@ -120,31 +127,25 @@ module _ (κ : Lft) where
       ∷ in_b ↛ left in_b (pos 0 ∷ pos 1 ∷ pos 0 ∷ pos 0 ∷ pos 2 ∷ pos 0 ∷ pos 0 ∷ pos 3 ∷ pos 0 ∷ pos 0 ∷ pos 4 ∷ pos 0 ∷ [])  -- phases_mixed
       ∷ [])
   unfolding shown_at over
-  phase_not = by seen (λ a. wholes (shown_at a.1.0 a.1.1.0 a.0.now)) (λ a z s. ap wholes s) ((refl, omega arith), ((refl, omega arith), ((refl, omega arith), tt))) tt
-
-  pub nothing_not : RuledOut (nothing-at.Pre (κ, tt)) (ends (nothing-at.Post (κ, tt))) (
-      sevens ↛ left sevens (replicate 12 (pos 7))  -- left_as_found
-      ∷ sevens ↛ left sevens (replicate 11 (pos 0) ++ (pos 7 ∷ []))  -- one_zero_less
-      ∷ [])
-  nothing_not = by seen (λ a. wholes (replicate 12 (pos 0))) (λ a z s. ap wholes s) (refl, (refl, tt)) tt
+  phase_not = by seen (λ a. wholes (shown_at a.1.0.n a.1.1.0 a.0.now)) (λ a z s. ap wholes s) (tt, (tt, (tt, tt))) tt
 
   pub phases_not : RuledOut (phases-at.Pre (κ, tt)) (ends (phases-at.Post (κ, tt))) (
-      call 0 0 first ↛ left (call 0 0 first) (flat (turns 0 4 8))  -- b_c_exchanged
-      ∷ call 1 0 first ↛ left (call 1 0 first) (flat (turns 4 0 8))  -- phase_of_p
-      ∷ call 0 1 second ↛ left (call 0 1 second) (flat (turns 11 3 7))  -- same_turn
-      ∷ call 0 1 first ↛ left (call 0 1 first) (flat (turns 1 9 5))  -- forward_by_d
-      ∷ call 1 0 zero_seq ↛ left (call 1 0 zero_seq) (flat (turns 4 4 4))  -- phase_turn_4p
-      ∷ call 1 0 first ↛ left (call 1 0 first) (flat (turns 4 8 0))  -- onward_exchanged
-      ∷ call 0 0 first ↛ left (call 0 0 first) (flat (t 0 ∷ t 8 ∷ four (whole_n (negsuc 1)) ∷ []))  -- last_keeps_next
-      ∷ call 0 4 first ↛ left (call 0 4 first) (flat (turns 0 8 4))  -- thirds_left_out
-      ∷ call 0 4 first ↛ left (call 0 4 first) (flat (turns 4 0 8))  -- thirds_backwards
-      ∷ call 0 1 first ↛ left (call 0 1 first) (flat (turns 8 4 0))  -- quarters_left_out
-      ∷ call 0 1 first ↛ left (call 0 1 first) (flat (turns 5 1 9))  -- quarters_forward
+      call a_odd 0 first ↛ left (call a_odd 0 first) (flat (turns 0 4 8))  -- b_c_exchanged
+      ∷ call b_odd 0 first ↛ left (call b_odd 0 first) (flat (turns 4 0 8))  -- phase_of_p
+      ∷ call a_odd 1 second ↛ left (call a_odd 1 second) (flat (turns 11 3 7))  -- same_turn
+      ∷ call a_odd 1 first ↛ left (call a_odd 1 first) (flat (turns 1 9 5))  -- forward_by_d
+      ∷ call b_odd 0 zero_seq ↛ left (call b_odd 0 zero_seq) (flat (turns 4 4 4))  -- phase_turn_4p
+      ∷ call b_odd 0 first ↛ left (call b_odd 0 first) (flat (turns 4 8 0))  -- onward_exchanged
+      ∷ call a_odd 0 first ↛ left (call a_odd 0 first) (flat (t 0 ∷ t 8 ∷ four (whole_n (negsuc 1)) ∷ []))  -- last_keeps_next
+      ∷ call a_odd 4 first ↛ left (call a_odd 4 first) (flat (turns 0 8 4))  -- thirds_left_out
+      ∷ call a_odd 4 first ↛ left (call a_odd 4 first) (flat (turns 4 0 8))  -- thirds_backwards
+      ∷ call a_odd 1 first ↛ left (call a_odd 1 first) (flat (turns 8 4 0))  -- quarters_left_out
+      ∷ call a_odd 1 first ↛ left (call a_odd 1 first) (flat (turns 5 1 9))  -- quarters_forward
       ∷ [])
   unfolding phase_open ◌+N◌ neg_n ◌·N◌ times_t ◌*N◌ power_n flat
   phases_not =
-      by seen (λ a. wholes (flat (phases a.1.0 a.1.1.0 a.1.1.1.0 a.1.1.1.1.0))) (λ a z s. ap wholes s)
-      (allowed 0 0 (omega arith) (omega arith) s1_plane, (allowed 1 0 (omega arith) (omega arith) s1_plane, (allowed 0 1 (omega arith) (omega arith) s2_plane, (allowed 0 1 (omega arith) (omega arith) s1_plane, (allowed 1 0 (omega arith) (omega arith) s0_plane, (allowed 1 0 (omega arith) (omega arith) s1_plane, (allowed 0 0 (omega arith) (omega arith) s1_plane, (allowed 0 4 (omega arith) (omega arith) s1_plane, (allowed 0 4 (omega arith) (omega arith) s1_plane, (allowed 0 1 (omega arith) (omega arith) s1_plane, (allowed 0 1 (omega arith) (omega arith) s1_plane, tt))))))))))) tt
+      by seen (λ a. wholes (flat (phases a.1.0.n a.1.1.0 a.1.1.1.0 a.1.1.1.1.0))) (λ a z s. ap wholes s)
+      (allowed 0 (omega arith) s1_plane, (allowed 0 (omega arith) s1_plane, (allowed 1 (omega arith) s2_plane, (allowed 1 (omega arith) s1_plane, (allowed 0 (omega arith) s0_plane, (allowed 0 (omega arith) s1_plane, (allowed 0 (omega arith) s1_plane, (allowed 4 (omega arith) s1_plane, (allowed 4 (omega arith) s1_plane, (allowed 1 (omega arith) s1_plane, (allowed 1 (omega arith) s1_plane, tt))))))))))) tt
 
 -- ---- the fault at its board: one ohm in every sequence, so that D is 9 and every current 3
 abbrev ohm : Ohms
@@ -237,6 +238,10 @@ asked h = (refl, h, alone_small, omega arith)
 abbrev fault_asked : ℕ → MutBor (List ℤ) × (Faulted × Unit {0})
 fault_asked turn = (found 13, (forth_at turn, tt))
 
+-- over sevens, off the chain
+abbrev over_sevens : MutBor (List ℤ) × (Faulted × (Bool × (Node × (Shared × Unit {0}))))
+over_sevens = (lent_out (replicate 24 (pos 7)), (forth, (false, (node 1 0, (alone, tt)))))
+
 abbrev board_call : Faulted → Bool → Node → MutBor (List ℤ) × (Faulted × (Bool × (Node × (Shared × Unit {0}))))
 board_call f on n = (found 24, (f, (on, (n, (alone, tt)))))
 
@@ -267,14 +272,19 @@ module _ (κ : Lft) where
       ∷ board_call risen false (node 1 0) ↛ left (board_call risen false (node 1 0)) (flat (turns 0 8 4) ++ flat nothing)  -- lifted_on_the_chain_only
       ∷ board_call risen false (node 2 0) ↛ left (board_call risen false (node 2 0)) (flat (zero_shown (neg_n one)) ++ flat nothing)  -- lifted_elsewhere
       ∷ board_call risen true (node 1 0) ↛ left (board_call risen true (node 1 0)) (flat (zero_shown one) ++ flat nothing)  -- lowered
+      ∷ over_sevens ↛ left over_sevens (flat (turns 0 8 4) ++ replicate 12 (pos 7))  -- left_as_found
+      ∷ over_sevens ↛ left over_sevens (flat (turns 0 8 4) ++ replicate 11 (pos 0) ++ (pos 7 ∷ []))  -- one_zero_less
       ∷ [])
   unfolding numbers_of left_of passed_of carried_of flat phase_open fault_open ◌+N◌ neg_n ◌·N◌ times_t ◌*N◌ power_n
   board_not =
       by seen (λ a. wholes (numbers_of a.1.0 a.1.1.0 a.1.1.1.0 a.1.1.1.1.0)) (λ a z s. ap wholes s)
-      (f, (f, (f, (f, (f, ((refl, forth_small 0 (omega arith), alone_small, omega arith), (e true, (e true, (e false, (r, (r, (r, (r, tt))))))))))))) tt
+      (f, (f, (f, (f, (f, ((refl, forth_small 0 (omega arith), alone_small, omega arith), (e true, (e true, (e false, (r, (r, (r, (r, (s, (s, tt))))))))))))))) tt
     where
       f : (length (found 24).now ≡ 24) × FaultSmall forth × ShareSmall alone × (0 ≤ 2816)
       f = asked (forth_small 0 (omega arith))
+
+      s : (length over_sevens.0.now ≡ 24) × FaultSmall forth × ShareSmall alone × (0 ≤ 2816)
+      s = (refl, forth_small 0 (omega arith), alone_small, omega arith)
 
       e : (b : Bool) → (length (found 24).now ≡ 24) × FaultSmall (earth b) × ShareSmall alone × (0 ≤ 2816)
       e b = asked (earth_small b)

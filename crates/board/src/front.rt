@@ -9,7 +9,7 @@ use node::Node;
 use paper::{Fault, Seq};
 use turn::Num;
 
-// The fault at its board: the currents over D, what W0 is lifted by in the board's part, D, the head of that part, the board's turn, the odd phase, and whether the part has an earth return.
+// No ghost field says FaultSmall: `fault_at` answers for any fault, and would have to ask more. The fault at its board: the currents over D, what W0 is lifted by in the board's part, D, the head of that part, the board's turn, the odd phase, and whether the part has an earth return.
 #[derive(Clone, Copy)]
 pub struct Faulted {
     pub i: Seq,
@@ -26,19 +26,12 @@ pub fn fault_at(at: Node, f: Fault) -> Faulted
     requires { (AtMost 4095 at.z1) × (AtMost 4095 at.z2) × (AtMost 4095 at.z0) × (AtMost 1365 f.zf) }
     ensures { result ≡ faulted_from at f }
 {
-    let z1 = at.z1;
-    let z2 = at.z2;
-    let z0 = at.z0;
-    let zf = f.zf;
     let earthed = at.start != 0;
-    let s = short(z1, z2, z0, zf, f.kind, earthed);
-    let i = s.i;
-    let lift = s.lift;
-    let d = s.d;
+    let s = short(at.z1, at.z2, at.z0, f.zf, f.kind, earthed);
     Faulted {
-        i,
-        lift,
-        d,
+        i: s.i,
+        lift: s.lift,
+        d: s.d,
         head: at.head,
         turn: at.turn,
         phase: f.phase,
@@ -51,8 +44,6 @@ pub fn top(out: &mut [i64], f: Faulted)
     requires { (length out.old ≡ 13) × (FaultSmall f) }
     ensures { out.new ≡ top_of f }
 {
-    let i = f.i;
-    let d = f.d;
-    out[0] = d;
-    shown(&mut out[1..13], f, f.turn, i);
+    out[0] = f.d;
+    shown(&mut out[1..13], f, f.turn, f.i);
 }

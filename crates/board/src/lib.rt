@@ -14,8 +14,7 @@ ghost use Rattle.board.specs.Faulted.{FaultSmall};
 ghost use Rattle.board.specs.Numbers.{ShareSmall, numbers_of};
 
 use crate::front::Faulted;
-use crate::phases::phases;
-use crate::put::nothing;
+use crate::phases::{Phase, phases};
 use chain::carried::{carried, only_if};
 use chain::share::Shared;
 use fault::volts::voltage;
@@ -27,22 +26,14 @@ fn left(f: Faulted, here: bool, s: Shared) -> Seq
     requires { FaultSmall f × ShareSmall s }
     ensures { result ≡ voltage_of f.d f.i s.z1 s.z2 s.z0 (only_if here f.lift) }
 {
-    let i = f.i;
-    let lift = f.lift;
-    let z1 = s.z1;
-    let z2 = s.z2;
-    let z0 = s.z0;
-    let up = only_if(here, lift);
-    voltage(f.d, i, z1, z2, z0, up)
+    voltage(f.d, f.i, s.z1, s.z2, s.z0, only_if(here, f.lift))
 }
 
 // The currents of a record.
 fn passed(f: Faulted, on: bool, here: bool) -> Seq
     ensures { result ≡ carried_of on (on && here && f.earthed) f.i }
 {
-    let i = f.i;
-    let earth = on & here & f.earthed;
-    carried(on, earth, i)
+    carried(on, on & here & f.earthed, f.i)
 }
 
 // What a board of some turn shows, over a part of twelve.
@@ -52,7 +43,16 @@ pub(crate) fn shown(out: &mut [i64], f: Faulted, turn: u16, x: Seq)
     requires x_plane { EachSeq (Plane most_w) x }
     ensures { out.new ≡ flat (phases f.phase turn f.turn x) }
 {
-    phases(out, f.phase as usize, turn as usize, f.turn as usize, x);
+    let p = Phase {
+        n: f.phase as usize,
+    };
+    phases(
+        out.as_mut_array().unwrap(),
+        p,
+        turn as usize,
+        f.turn as usize,
+        x,
+    );
 }
 
 // The 24 numbers of a board, over its part of the buffer. Off the chain its record carries nothing, so there is nothing to turn: most records of a large network.
@@ -62,13 +62,12 @@ pub fn board(out: &mut [i64], f: Faulted, on: bool, node: Node, s: Shared)
     ensures { out.new ≡ numbers_of f on node s }
 {
     let here = node.head == f.head;
-    let turn = node.turn;
     let mut x = left(f, here, s);
-    shown(&mut out[0..12], f, turn, x);
+    shown(&mut out[0..12], f, node.turn, x);
     if on {
         x = passed(f, on, here);
-        shown(&mut out[12..24], f, turn, x);
+        shown(&mut out[12..24], f, node.turn, x);
     } else {
-        nothing(&mut out[12..24]);
+        out[12..24].fill(0);
     }
 }

@@ -17,15 +17,14 @@ use Rattle.paper.specs.Phase.{only_if, four}
 use Rattle.paper.proofs.Told.{parts, sequences}
 use Rattle.node.specs.declared.Node.{Node}
 use Rattle.node.specs.Node.{no_node}
-use Rattle.node.specs.Rows.{row_of, node_in, nodes_in}
 use Rattle.chain.specs.declared.share.Shared.{Shared}
 use Rattle.chain.specs.Share.{no_share, share_from, shared_in, with_share}
 use Rattle.chain.specs.Carried.{carried_of}
 use Rattle.chain.specs.Marked.{FromEarlier, feeder_in, marked, marks_of}
-use Rattle.chain.proofs.share.no_share.Reads as no-share
+use Rattle.chain.proofs.share.Shared.none.Reads as none
 use Rattle.chain.proofs.share.share.Reads as share
-use Rattle.chain.proofs.share.shared_in.Reads as shared-in
-use Rattle.chain.proofs.share.with_share.Reads as with-share
+use Rattle.chain.proofs.share.SharedFromNode.from.Reads as from
+use Rattle.chain.proofs.share.Shared.put_in.Reads as put-in
 use Rattle.chain.proofs.carried.carried.Reads as carried
 use Rattle.chain.proofs.carried.only_if.Reads as only_if
 use Rattle.chain.proofs.chain.Reads as chain
@@ -33,6 +32,9 @@ use Rattle.chain.proofs.chain.Reads as chain
 -- ---- answers told apart
 abbrev ohms_told : Shared → ℕ
 ohms_told s = list (parts s.z1 ++ parts s.z2 ++ parts s.z0)
+
+abbrev node_told : Node → ℕ
+node_told n = list (parts n.z1 ++ parts n.z2 ++ parts n.z0 ++ (n.feeder ∷ n.head ∷ n.start ∷ n.turn ∷ []))
 
 abbrev bits : List Bool → ℕ
 bits [] = 0
@@ -51,30 +53,29 @@ fed_with f x1 x2 x0 = record { z1 = ohms 0 x1; z2 = ohms 0 x2; z0 = ohms 0 x0; f
 abbrev fed : ℕ → Node
 fed f = fed_with f 1 2 3
 
--- two boards, one behind the other, in their rows
-abbrev two : List (List ℕ)
-two = row_of (fed 0) ∷ row_of (fed 1) ∷ replicate 254 (replicate 10 0)
+-- two boards, one behind the other
+abbrev two : List Node
+two = fed 0 ∷ fed 1 ∷ replicate 254 no_node
 
-two_earlier : FromEarlier (nodes_in two)
-unfolding nodes_in node_in row_of
+two_earlier : FromEarlier two
 two_earlier = record { earlier = each }
   where
-    none : (n i : ℕ) → (get_or (nodes_in (replicate n (replicate 10 0))) i no_node).feeder ≤ 0
+    none : (n i : ℕ) → (get_or (replicate n no_node) i no_node).feeder ≤ 0
     none zero i = lit≤ tt
     none (suc n) zero = lit≤ tt
     none (suc n) (suc i) = none n i
 
-    each : (i : ℕ) → (get_or (nodes_in two) i no_node).feeder ≤ i
+    each : (i : ℕ) → (get_or two i no_node).feeder ≤ i
     each zero = lit≤ tt
     each (suc zero) = lit≤ tt
     each (suc (suc i)) = le_trans (none 254 i) zero-le
 
 -- ---- the contracts
-pub no_share_not : RuledOut (no-share.Pre tt) (ever (no-share.Post tt)) (
+pub none_not : RuledOut (none.Pre tt) (ever (none.Post tt)) (
     tt ↛ record { z1 = ohms 1 0; z2 = ohms 1 0; z0 = ohms 1 0 }  -- r_shared_by_none
     ∷ tt ↛ shared 1 1 1  -- x_shared_by_none
     ∷ [])
-no_share_not = by_equation (λ a. no_share) ohms_told (λ a z e s. s) (tt, (tt, tt)) tt
+none_not = by_equation (λ a. no_share) ohms_told (λ a z e s. s) (tt, (tt, tt)) tt
 
 pub share_not : RuledOut (share.Pre tt) (ever (share.Post tt)) (
     (true, (fed 0, (1, (shared 4 5 6, tt)))) ↛ shared 1 1 3  -- negative_like_positive
@@ -84,19 +85,19 @@ pub share_not : RuledOut (share.Pre tt) (ever (share.Post tt)) (
 unfolding share_from
 share_not = by_equation (λ a. share_from a.0 a.1.0 a.1.1.0 a.1.1.1.0) ohms_told (λ a z e s. s) (tt, (tt, (tt, tt))) tt
 
-pub shared_in_not : RuledOut (shared-in.Pre tt) (ever (shared-in.Post tt)) (
+pub from_not : RuledOut (from.Pre tt) (ever (from.Post tt)) (
     (fed 1, tt) ↛ no_share  -- nothing_read_back
     ∷ (fed 1, tt) ↛ shared 1 1 3  -- z1_read_back_for_z2
     ∷ [])
 unfolding shared_in
-shared_in_not = by_equation (λ a. shared_in a.0) ohms_told (λ a z e s. s) (tt, (tt, tt)) tt
+from_not = by_equation (λ a. shared_in a.0) ohms_told (λ a z e s. s) (tt, (tt, tt)) tt
 
-pub with_share_not : RuledOut (with-share.Pre tt) (ever (with-share.Post tt)) (
-    (fed 1, (shared 4 5 6, tt)) ↛ fed 1  -- sums_stay
-    ∷ (fed 1, (shared 4 5 6, tt)) ↛ fed_with 0 4 5 6  -- feeder_lost
+pub put_in_not : RuledOut (put-in.Pre tt) (ever (put-in.Post tt)) (
+    (shared 4 5 6, (fed 1, tt)) ↛ fed 1  -- sums_stay
+    ∷ (shared 4 5 6, (fed 1, tt)) ↛ fed_with 0 4 5 6  -- feeder_lost
     ∷ [])
-unfolding with_share row_of
-with_share_not = by_equation (λ a. with_share a.0 a.1.0) (λ n. list (row_of n)) (λ a z e s. s) (tt, (tt, tt)) tt
+unfolding with_share
+put_in_not = by_equation (λ a. with_share a.1.0 a.0) node_told (λ a z e s. s) (tt, (tt, tt)) tt
 
 pub only_if_not : RuledOut (only_if.Pre tt) (ever (only_if.Post tt)) (
     (true, (whole_n (pos 5), tt)) ↛ whole_n (pos 0)  -- lost_where_it_counts
@@ -118,5 +119,5 @@ module _ (κ : Lft) where
       (lent two, (2, tt)) ↛ (false ∷ true ∷ true ∷ replicate 253 false)  -- marked_from_0
       ∷ (lent two, (2, tt)) ↛ replicate 256 false  -- nothing_marked
       ∷ [])
-  unfolding marks_of climb feeder_in marked nodes_in node_in row_of
-  chain_not = by_equation (λ a. marks_of (nodes_in a.0.now) a.1.0) bits (λ a z e s. s) ((lit≤ tt, two_earlier), ((lit≤ tt, two_earlier), tt)) tt
+  unfolding marks_of climb feeder_in marked
+  chain_not = by_equation (λ a. marks_of a.0.now a.1.0) bits (λ a z e s. s) ((lit≤ tt, two_earlier), ((lit≤ tt, two_earlier), tt)) tt

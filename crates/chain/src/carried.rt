@@ -6,7 +6,7 @@ ghost use Rattle.chain.specs.Carried.{carried_of};
 use paper::Seq;
 use turn::Num;
 
-// A number where it counts, else zero: a current on the chain, a lift in the faulted board's part.
+// Named as the definition that both crates' clauses cite. A number where it counts, else zero: a current on the chain, a lift in the faulted board's part.
 pub fn only_if(on: bool, n: Num) -> Num
     ensures { result ≡ only_if on n }
 {
@@ -17,11 +17,9 @@ pub fn only_if(on: bool, n: Num) -> Num
 pub fn carried(on: bool, earth: bool, i: Seq) -> Seq
     ensures { result ≡ carried_of on earth i }
 {
-    let i1 = i.s1;
-    let i2 = i.s2;
-    let i0 = i.s0;
-    let s1 = only_if(on, i1);
-    let s2 = only_if(on, i2);
-    let s0 = only_if(earth, i0);
-    Seq { s1, s2, s0 }
+    Seq {
+        s1: only_if(on, i.s1),
+        s2: only_if(on, i.s2),
+        s0: only_if(earth, i.s0),
+    }
 }

@@ -15,12 +15,14 @@ use std::rt::Files;
 // What is read of the file at most: the longest that may be sound, and more, so that a longer one is refused and not cut to a sound one.
 const FILE: usize = 16384;
 
+// What may not change: its clause says that FILE is the paper's limit. An array of a program's own would say nothing of it.
 pub fn file_space() -> [u8; FILE]
     ensures { file_most ≡ length result }
 {
     [0; FILE]
 }
 
+// No `for` and no index counted by one: each read says how far it came.
 // How many bytes were read: it ends where there is no room, the input ends, or a read fails. What a read that failed has put behind them is no part of them.
 pub fn read_full<R: Read>(input: &mut R, space: &mut [u8]) -> usize
     ensures counted { IsPrefixLen result space.new }
@@ -47,7 +49,7 @@ pub fn network<R: Files>(rt: &R, space: &mut [u8]) -> usize
     }
 }
 
-// A text to standard output; where it cannot be written, what is said of that. Whether it was written.
+// A text to standard output; where it cannot be written, what is said of that. Whether it was written: no `Result`, which would be no plainer, since of the failure all is said here.
 pub fn print<O: Write, E: Write>(out: &mut O, err: &mut E, text: &[u8], failed: &[u8]) -> bool
     ensures printed { IsTrue result → Appends (O.contents out.old) (O.contents out.new) text.now }
     ensures quiet { IsTrue result → Keeps (E.contents err.old) (E.contents err.new) }

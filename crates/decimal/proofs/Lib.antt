@@ -1,4 +1,5 @@
 pub mod Writes
+pub mod Pens
 pub mod Decimal
 mod Signed
 pub mod Stored

@@ -1,26 +1,24 @@
 -- What each contract of this crate rules out: a call that it allows, and an answer that it does not. Assumes nothing.
-use mathlib.Core.List.{List, [], ◌∷◌}
-use native.Mathlib.Omega.{arith}
+use mathlib.Core.List.{List, [], ◌∷◌, Mem}
+use Prim.Native.Nat.{ℕ}
 use lib.IntN.{ℤ, pos, negsuc, nat_abs}
-use lib.ListN.{take, drop}
 use base.Fml.{Lft}
 use denote.Ref.{Bor}
+use Rattle.std.proofs.Common.{Fits-lit}
 use Rattle.lemmas.proofs.RuledOut.{◌↛◌, RuledOut, ever, by_equation, lent}
 use Rattle.decimal.specs.Decimal.{decimal, signed, row, decimal_open}
 use Rattle.lemmas.specs.Little.{little}
 use Rattle.decimal.specs.Word.{word_of}
-use Rattle.decimal.proofs.Told.{bytes, dots, leaves, room, by_text, by_room}
-use Rattle.decimal.proofs.put_byte.Reads as put_byte
-use Rattle.decimal.proofs.put_bytes.Reads as put-bytes
-use Rattle.decimal.proofs.put_decimal.Reads as put-decimal
+use Rattle.decimal.proofs.Told.{bytes, pen, leaves, room, by_text, by_room}
+use Rattle.decimal.proofs.Pen.byte.Reads as byte
+use Rattle.decimal.proofs.Pen.bytes.Reads as pen-bytes
+use Rattle.decimal.proofs.Pen.decimal.Reads as pen-decimal
 use Rattle.decimal.proofs.magnitude.Reads as magnitude
-use Rattle.decimal.proofs.put_number.Reads as put-number
-use Rattle.decimal.proofs.row.put_field.Reads as put-field
-use Rattle.decimal.proofs.row.put_pair.Reads as put-pair
-use Rattle.decimal.proofs.row.put_row.Reads as put_row
-use Rattle.decimal.proofs.little.put_two.Reads as put_two
-use Rattle.decimal.proofs.little.put_four.Reads as put_four
-use Rattle.decimal.proofs.little.put_eight.Reads as put-eight
+use Rattle.decimal.proofs.Pen.number.Reads as number
+use Rattle.decimal.proofs.Pen.field.Reads as field
+use Rattle.decimal.proofs.Pen.pair.Reads as pair
+use Rattle.decimal.proofs.Pen.row.Reads as pen-row
+use Rattle.decimal.proofs.Pen.little.Reads as pen-little
 use Rattle.decimal.proofs.little.word.Reads as word
 
 abbrev numbers : Bor (List ℤ)
@@ -39,73 +37,77 @@ pub word_not : RuledOut (word.Pre tt) (ever (word.Post tt)) (
 unfolding word_of
 word_not = by_equation (λ a. word_of a.0) (λ n. n) (λ a z e s. s) (tt, (tt, tt)) tt
 
-module _ (κ : Lft) where
-  pub put_byte_not : RuledOut (put_byte.Pre (κ, tt)) (leaves (put_byte.Post (κ, tt))) (
-      (dots 3, (1, (65, tt))) ↛ (2, bytes "A..")  -- text_at_the_front
-      ∷ (dots 3, (1, (65, tt))) ↛ (1, bytes ".A.")  -- next_is_the_same
-      ∷ (dots 3, (1, (65, tt))) ↛ (3, bytes ".A.")  -- byte_and_a_gap
-      ∷ [])
-  put_byte_not = by_room (λ b. b.0 ∷ []) tt tt
-
-  pub put_decimal_not : RuledOut (put-decimal.Pre (κ, tt)) (leaves (put-decimal.Post (κ, tt))) (
-      (dots 3, (0, (12, tt))) ↛ (2, bytes "21.")  -- digits_in_reverse
-      ∷ (dots 3, (0, (12, tt))) ↛ (0, bytes "12.")  -- next_is_the_same
-      ∷ [])
-  unfolding decimal_open
-  put_decimal_not = by_room (λ b. decimal b.0) tt tt
-
-  pub put_number_not : RuledOut (put-number.Pre (κ, tt)) (leaves (put-number.Post (κ, tt))) (
-      (dots 4, (0, (negsuc 4, tt))) ↛ (2, bytes " 5..")  -- minus_lost
-      ∷ (dots 4, (0, (pos 12, tt))) ↛ (3, bytes " 21.")  -- digits_in_reverse
-      ∷ [])
-  unfolding decimal_open
-  put_number_not = by_room (λ b. 0x20 ∷ signed b.0) tt tt
-
-  pub put_field_not : RuledOut (put-field.Pre (κ, tt)) (leaves (put-field.Post (κ, tt))) (
-      (dots 4, (1, (5, tt))) ↛ (3, bytes ".05.")  -- field_after_a_0
-      ∷ (dots 4, (1, (5, tt))) ↛ (2, bytes ".5..")  -- field_over_its_space
-      ∷ [])
-  unfolding decimal_open
-  put_field_not = by_room (λ b. 0x20 ∷ decimal b.0) tt tt
-
-  pub put_pair_not : RuledOut (put-pair.Pre (κ, tt)) (leaves (put-pair.Post (κ, tt))) (
-      (dots 6, (0, (1, (2, tt)))) ↛ (5, bytes " 1 1\n.")  -- pair_first_twice
-      ∷ (dots 6, (0, (1, (2, tt)))) ↛ (5, bytes " 1 2 .")  -- pair_without_end
-      ∷ [])
-  unfolding decimal_open
-  put_pair_not = by_room (λ b. row (pos b.0 ∷ pos b.1.0 ∷ [])) tt tt
-
-  pub put_two_not : RuledOut (put_two.Pre (κ, tt)) (leaves (put_two.Post (κ, tt))) (
-      (dots 2, (0, (0x4241, tt))) ↛ (2, bytes "BA")  -- high_byte_first
-      ∷ (dots 2, (0, (0x4241, tt))) ↛ (2, bytes "AA")  -- low_byte_twice
-      ∷ [])
-  unfolding little
-  put_two_not = by_room (λ b. little 2 b.0) tt tt
-
-  pub put_four_not : RuledOut (put_four.Pre (κ, tt)) (leaves (put_four.Post (κ, tt))) (
-      (dots 4, (0, (0x44434241, tt))) ↛ (4, bytes "ACCD")  -- second_byte_lost
-      ∷ (dots 4, (0, (0x44434241, tt))) ↛ (4, bytes "ABCC")  -- third_byte_twice
-      ∷ [])
-  unfolding little
-  put_four_not = by_room (λ b. little 4 b.0) tt tt
-
-  pub put_eight_not : RuledOut (put-eight.Pre (κ, tt)) (leaves (put-eight.Post (κ, tt))) (
-      (dots 8, (0, (0x4847464544434241, tt))) ↛ (8, bytes "ABCDABCD")  -- low_half_twice
-      ∷ (dots 8, (0, (0x4847464544434241, tt))) ↛ (8, bytes "EFGHEFGH")  -- high_half_first
-      ∷ [])
-  unfolding little
-  put_eight_not = by_room (λ b. little 8 b.0) tt tt
-
 module _ (κ κ' : Lft) where
-  pub put_bytes_not : RuledOut (put-bytes.Pre (κ, (κ', tt))) (leaves (put-bytes.Post (κ, (κ', tt)))) (
-      (dots 4, (1, (lent (bytes "AB"), tt))) ↛ (3, bytes "AB..")  -- text_at_the_front
-      ∷ (dots 4, (1, (lent (bytes "AB"), tt))) ↛ (1, bytes ".AB.")  -- next_is_the_same
+  pub byte_not : RuledOut (byte.Pre (κ, (κ', tt))) (leaves (byte.Post (κ, (κ', tt)))) (
+      (pen 3 1, (65, tt)) ↛ (2, bytes "A..")  -- text_at_the_front
+      ∷ (pen 3 1, (65, tt)) ↛ (1, bytes ".A.")  -- next_is_the_same
+      ∷ (pen 3 1, (65, tt)) ↛ (3, bytes ".A.")  -- byte_and_a_gap
       ∷ [])
-  put_bytes_not = by_room (λ b. b.0.now) tt tt
+  byte_not = by_room (λ b. b.0 ∷ []) tt tt
 
-  pub put_row_not : RuledOut (put_row.Pre (κ, (κ', tt))) (leaves (put_row.Post (κ, (κ', tt)))) (
-      (dots 6, (0, (65, (numbers, (0, (2, tt)))))) ↛ (3, bytes " 4\n...")  -- numbers_on_top
-      ∷ (dots 6, (0, (65, (numbers, (0, (2, tt)))))) ↛ (6, bytes "A 3 4 ")  -- row_without_end
+  pub decimal_not : RuledOut (pen-decimal.Pre (κ, (κ', tt))) (leaves (pen-decimal.Post (κ, (κ', tt)))) (
+      (pen 3 0, (12, tt)) ↛ (2, bytes "21.")  -- digits_in_reverse
+      ∷ (pen 3 0, (12, tt)) ↛ (0, bytes "12.")  -- next_is_the_same
       ∷ [])
   unfolding decimal_open
-  put_row_not = by_text (λ b. b.0 ∷ row (take b.1.1.1.0 (drop b.1.1.0 b.1.0.now))) ((omega arith, room tt), ((omega arith, room tt), tt)) tt
+  decimal_not = by_room (λ b. decimal b.0) tt tt
+
+  pub number_not : RuledOut (number.Pre (κ, (κ', tt))) (leaves (number.Post (κ, (κ', tt)))) (
+      (pen 4 0, (negsuc 4, tt)) ↛ (2, bytes " 5..")  -- minus_lost
+      ∷ (pen 4 0, (pos 12, tt)) ↛ (3, bytes " 21.")  -- digits_in_reverse
+      ∷ [])
+  unfolding decimal_open
+  number_not = by_room (λ b. 0x20 ∷ signed b.0) tt tt
+
+  pub field_not : RuledOut (field.Pre (κ, (κ', tt))) (leaves (field.Post (κ, (κ', tt)))) (
+      (pen 4 1, (5, tt)) ↛ (3, bytes ".05.")  -- field_after_a_0
+      ∷ (pen 4 1, (5, tt)) ↛ (2, bytes ".5..")  -- field_over_its_space
+      ∷ [])
+  unfolding decimal_open
+  field_not = by_room (λ b. 0x20 ∷ decimal b.0) tt tt
+
+  pub pair_not : RuledOut (pair.Pre (κ, (κ', tt))) (leaves (pair.Post (κ, (κ', tt)))) (
+      (pen 6 0, (1, (2, tt))) ↛ (5, bytes " 1 1\n.")  -- pair_first_twice
+      ∷ (pen 6 0, (1, (2, tt))) ↛ (5, bytes " 1 2 .")  -- pair_without_end
+      ∷ [])
+  unfolding decimal_open
+  pair_not = by_room (λ b. row (pos b.0 ∷ pos b.1.0 ∷ [])) tt tt
+
+  -- a generic function asks that what its arguments hold lives; a number holds nothing, here and in the call
+  none_lives : (a : ℕ) → Mem a [] → Mem a []
+  none_lives a m = m
+
+  pub little_two_not : RuledOut (pen-little.Pre 2 (Fits-lit tt) (κ, (κ', ([], tt)))) (leaves (pen-little.Post 2 (Fits-lit tt) (κ, (κ', ([], tt))))) (
+      (pen 2 0, (0x4241, tt)) ↛ (2, bytes "BA")  -- high_byte_first
+      ∷ (pen 2 0, (0x4241, tt)) ↛ (2, bytes "AA")  -- low_byte_twice
+      ∷ [])
+  unfolding little
+  little_two_not = by_text (λ b. little 2 b.0) ((none_lives, room tt), ((none_lives, room tt), tt)) tt
+
+  pub little_four_not : RuledOut (pen-little.Pre 4 (Fits-lit tt) (κ, (κ', ([], tt)))) (leaves (pen-little.Post 4 (Fits-lit tt) (κ, (κ', ([], tt))))) (
+      (pen 4 0, (0x44434241, tt)) ↛ (4, bytes "ACCD")  -- second_byte_lost
+      ∷ (pen 4 0, (0x44434241, tt)) ↛ (4, bytes "ABCC")  -- third_byte_twice
+      ∷ [])
+  unfolding little
+  little_four_not = by_text (λ b. little 4 b.0) ((none_lives, room tt), ((none_lives, room tt), tt)) tt
+
+  pub little_eight_not : RuledOut (pen-little.Pre 8 (Fits-lit tt) (κ, (κ', ([], tt)))) (leaves (pen-little.Post 8 (Fits-lit tt) (κ, (κ', ([], tt))))) (
+      (pen 8 0, (0x4847464544434241, tt)) ↛ (8, bytes "ABCDABCD")  -- low_half_twice
+      ∷ (pen 8 0, (0x4847464544434241, tt)) ↛ (8, bytes "EFGHEFGH")  -- high_half_first
+      ∷ [])
+  unfolding little
+  little_eight_not = by_text (λ b. little 8 b.0) ((none_lives, room tt), ((none_lives, room tt), tt)) tt
+
+module _ (κ κ' κ₂ : Lft) where
+  pub bytes_not : RuledOut (pen-bytes.Pre (κ, (κ', (κ₂, tt)))) (leaves (pen-bytes.Post (κ, (κ', (κ₂, tt))))) (
+      (pen 4 1, (lent (bytes "AB"), tt)) ↛ (3, bytes "AB..")  -- text_at_the_front
+      ∷ (pen 4 1, (lent (bytes "AB"), tt)) ↛ (1, bytes ".AB.")  -- next_is_the_same
+      ∷ [])
+  bytes_not = by_room (λ b. b.0.now) tt tt
+
+  pub row_not : RuledOut (pen-row.Pre (κ, (κ', (κ₂, tt)))) (leaves (pen-row.Post (κ, (κ', (κ₂, tt))))) (
+      (pen 6 0, (65, (numbers, tt))) ↛ (3, bytes " 4\n...")  -- numbers_on_top
+      ∷ (pen 6 0, (65, (numbers, tt))) ↛ (6, bytes "A 3 4 ")  -- row_without_end
+      ∷ [])
+  unfolding decimal_open
+  row_not = by_room (λ b. b.0 ∷ row b.1.0.now) tt tt

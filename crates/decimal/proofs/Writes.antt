@@ -1,12 +1,12 @@
 -- Text written behind text: what the functions that write hand on to each other. Assumes nothing.
 use mathlib.Core.Path.{◌≡◌, refl, sym, ap, ◌∙◌}
-use mathlib.Core.List.{List, [], ◌∷◌, ◌++◌, append_assoc}
+use mathlib.Core.List.{List, [], ◌∷◌, ◌++◌}
 use Prim.Native.Nat.{ℕ, ◌+◌, ◌<◌}
-use native.Mathlib.Nat.{add-zero}
+use native.Mathlib.Nat.{add-zero, zero-add}
 use native.Mathlib.Numerals.{add-one}
 use native.Mathlib.Omega.{arith}
-use lib.ListN.{length, get_or, take, drop, set, length-append, take-append-drop}
-use lib.Seq.{paste, paste-suc, take-length, drop-drop, set_split}
+use lib.ListN.{length, take, drop, set, length-append, take-append-drop}
+use lib.Seq.{take-append_seam, drop-drop, set_split}
 use Rattle.lemmas.specs.Over.{over}
 use Rattle.lemmas.proofs.Over.{over_length, over_then}
 use Rattle.decimal.specs.Wrote.{Room, Wrote}
@@ -21,27 +21,14 @@ pub wrote_byte : (at b : ℕ) (o : List ℕ) → at < length o → Wrote at (b �
 unfolding over
 wrote_byte at b o h = record { stands = set_split o at b h ∙ ap (λ (l : List ℕ). take at o ++ b ∷ l) (ap (λ (n : ℕ). drop n o) (sym (add-one at)) ∙ sym (drop-drop 1 at o)); behind = refl }
 
--- a copy
-pub wrote_copy : (at n : ℕ) (s o later : List ℕ) → later ≡ paste o at s n → n ≡ length s → Wrote at s o later (at + n)
-unfolding over
-wrote_copy at n s o later e l =
-    record {
-      stands =
-          e ∙ ap (λ (m : ℕ). paste o at s m) l
-          ∙ ap (λ (x : List ℕ). (take at o ++ x) ++ drop (at + length s) o) (take-length s)
-          ∙ append_assoc (take at o) s (drop (at + length s) o)
-          ∙ ap (λ (x : List ℕ). take at o ++ (s ++ x)) (sym (drop-drop (length s) at o));
-      behind = ap (λ (m : ℕ). at + m) l;
-    }
-
--- a turn of it
-pub copy_turn : (at i : ℕ) (s o later : List ℕ) → later ≡ paste o at s i → at + i < length o → i < length s → set later (at + i) (get_or s i 0) ≡ paste o at s (i + 1)
-copy_turn at i s o later e h l =
-    ap (λ (x : List ℕ). set x (at + i) (get_or s i 0)) e ∙ paste-suc o at s i 0 h l ∙ ap (λ (m : ℕ). paste o at s m) (sym (add-one i))
-
 -- the buffer stays as long as it was
 pub wrote_length : {at end : ℕ} {s o o' : List ℕ} → Room at s o → Wrote at s o o' end → length o' ≡ length o
 wrote_length {at} {end} {s} {o} room w = ap length w.stands ∙ over_length 0 at s o room.fits
+
+-- what was written from the front on is the front
+pub wrote_front : {n : ℕ} {s o later : List ℕ} → Wrote 0 s o later n → take n later ≡ s
+unfolding over
+wrote_front {n} {s} {o} {later} w = ap (λ (k : ℕ). take k later) (w.behind ∙ zero-add (length s)) ∙ ap (take (length s)) w.stands ∙ take-append_seam s _
 
 -- one buffer and one next place alone are what a text leaves
 pub same_text : {at m n : ℕ} {s o x y : List ℕ} → Wrote at s o x m → Wrote at s o y n → (x ≡ y) × (m ≡ n)
@@ -66,37 +53,3 @@ wrote_then {at} {mid} {end} {s} {t} {o} {o'} {o''} room w v =
           ∙ over_then at s t o (omega (arith, room.fits));
       behind = omega (arith, length-append s t, w.behind, v.behind);
     }
-
--- the same text under another name
-pub room_as : {at : ℕ} {s t o : List ℕ} → s ≡ t → Room at s o → Room at t o
-room_as e room = rw e at room
-
-pub wrote_as : {at end : ℕ} {s t o o' : List ℕ} → s ≡ t → Wrote at s o o' end → Wrote at t o o' end
-wrote_as e w = rw e at w
-
--- ---- of s, that is to stand in o from at on, t is left to write from the place mid on
-pub record Left (at : ℕ) (s o : List ℕ) (mid : ℕ) (t o' : List ℕ) : Type 0 where
-  pub room : Room mid t o'
-  pub then : (o'' : List ℕ) (end : ℕ) → Wrote mid t o' o'' end → Wrote at s o o'' end
-
-pub left_all : {at : ℕ} {s o : List ℕ} → Room at s o → Left at s o at s o
-left_all r = record { room = r; then = λ o'' end w. w }
-
-pub left_as : {at mid : ℕ} {s o t t' o' : List ℕ} → t ≡ t' → Left at s o mid t o' → Left at s o mid t' o'
-left_as e l = rw e at l
-
-pub left_by : {at : ℕ} {s t o : List ℕ} → s ≡ t → Room at s o → Left at s o at t o
-left_by e r = left_as e (left_all r)
-
-pub left_then : {at mid end : ℕ} {s o t u o' o'' : List ℕ} → Left at s o mid (t ++ u) o' → Wrote mid t o' o'' end → Left at s o end u o''
-left_then l w = record { room = room_behind l.room w; then = λ o'' end v. l.then o'' end (wrote_then l.room w v) }
-
-pub left_two : {at mid next end : ℕ} {s o t u v o' o'' o''' : List ℕ} → Left at s o mid (t ++ (u ++ v)) o' → Wrote mid t o' o'' next → Wrote next u o'' o''' end → Left at s o end v o'''
-left_two l w v = left_then (left_then l w) v
-
-pub left_last : {at mid end : ℕ} {s o t o' o'' : List ℕ} → Left at s o mid t o' → Wrote mid t o' o'' end → Wrote at s o o'' end
-left_last {end = end} {o'' = o''} l w = l.then o'' end w
-
--- nothing is left
-pub left_none : {at mid : ℕ} {s o o' : List ℕ} → Left at s o mid [] o' → Wrote at s o o' mid
-left_none {mid = mid} {o' = o'} l = l.then o' mid (wrote_none mid o')

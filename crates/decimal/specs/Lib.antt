@@ -1,3 +1,4 @@
 pub mod Decimal
 pub mod Word
 pub mod Wrote
+pub mod Writing

@@ -1,5 +1,4 @@
-// Bytes and numbers as text, written into a lent buffer; in the modules numbers in a row, and numbers as bytes.
-// Each function writes from a place on and returns the place behind.
+// Bytes and numbers as text, written with a pen into a lent buffer; in the modules numbers in a row, and numbers as bytes.
 #![tactic(auto)]
 
 pub mod little;
@@ -7,61 +6,63 @@ pub mod row;
 
 ghost use Rattle.std.specs.Prelude.{◌∷◌, [], ◌≡◌, nat_abs};
 ghost use Rattle.decimal.specs.Decimal.{decimal, signed};
-ghost use Rattle.decimal.specs.Wrote.{Room, Wrote};
+ghost use Rattle.decimal.specs.Writing.{Fits, Writes};
 
-pub fn put_byte(out: &mut [u8], at: usize, b: u8) -> usize
-    requires { Room at (b ∷ []) out.old }
-    ensures { Wrote at (b ∷ []) out.old out.new result }
-{
-    out[at] = b;
-    at + 1
+// A lent buffer, and the place in it behind what is written.
+#[derive(Drop)]
+pub struct Pen<'a> {
+    pub out: &'a mut [u8],
+    pub at: usize,
 }
 
-pub fn put_bytes(out: &mut [u8], at: usize, s: &[u8]) -> usize
-    requires { Room at s.now out.old }
-    ensures { Wrote at s.now out.old out.new result }
-{
-    let mut i: usize = 0;
-    while i < s.len() {
-        out[at + i] = s[i];
-        i += 1;
+impl<'a> Pen<'a> {
+    pub fn byte(&mut self, b: u8)
+        requires { Fits (b ∷ []) self.old }
+        ensures { Writes (b ∷ []) self.old self.new }
+    {
+        self.out[self.at] = b;
+        self.at += 1;
     }
-    at + i
-}
 
-// A number without a sign. The last digit goes behind the others.
-pub(crate) fn put_decimal(out: &mut [u8], at: usize, n: u64) -> usize
-    requires { Room at (decimal n) out.old }
-    ensures { Wrote at (decimal n) out.old out.new result }
-{
-    if n < 10 {
-        return put_byte(out, at, 0x30 + n as u8);
+    pub fn bytes(&mut self, s: &[u8])
+        requires { Fits s.now self.old }
+        ensures { Writes s.now self.old self.new }
+    {
+        let end = self.at + s.len();
+        self.out[self.at..end].copy_from_slice(s);
+        self.at = end;
     }
-    let end = put_decimal(out, at, n / 10);
-    put_byte(out, end, 0x30 + (n % 10) as u8)
+
+    // A number without a sign. The last digit goes behind the others.
+    pub(crate) fn decimal(&mut self, n: u64)
+        requires { Fits (decimal n) self.old }
+        ensures { Writes (decimal n) self.old self.new }
+    {
+        if n < 10 {
+            return self.byte(0x30 + n as u8);
+        }
+        self.decimal(n / 10);
+        self.byte(0x30 + (n % 10) as u8);
+    }
+
+    // A space, and a number with its sign.
+    pub(crate) fn number(&mut self, z: i64)
+        requires { Fits (0x20 ∷ signed z) self.old }
+        ensures { Writes (0x20 ∷ signed z) self.old self.new }
+    {
+        let n = magnitude(z);
+        self.byte(b' ');
+        if z < 0 {
+            self.byte(b'-');
+            return self.decimal(n);
+        }
+        self.decimal(n);
+    }
 }
 
-// How far a number is from 0. Down by one from 0, so that the least number has its own too.
+// How far a number is from 0; the least number has its own too. What may not change: its rows are `magnitude_not`.
 pub fn magnitude(z: i64) -> u64
     ensures { result ≡ nat_abs z }
 {
-    if z < 0 {
-        let less = -1 - z;
-        return less as u64 + 1;
-    }
-    z as u64
-}
-
-// A space, and a number with its sign.
-pub(crate) fn put_number(out: &mut [u8], at: usize, z: i64) -> usize
-    requires { Room at (0x20 ∷ signed z) out.old }
-    ensures { Wrote at (0x20 ∷ signed z) out.old out.new result }
-{
-    let n = magnitude(z);
-    let a = put_byte(out, at, b' ');
-    if z < 0 {
-        let b = put_byte(out, a, b'-');
-        return put_decimal(out, b, n);
-    }
-    put_decimal(out, a, n)
+    z.unsigned_abs()
 }

@@ -1,40 +1,39 @@
-// Numbers in a row, to a line's end. Each function writes from a place on and returns the place behind.
-ghost use Rattle.std.specs.Prelude.{◌∷◌, [], ◌+◌, ◌≤◌, pos, length, take, drop};
+// Numbers in a row, to a line's end.
+ghost use Rattle.std.specs.Prelude.{◌∷◌, [], pos};
 ghost use Rattle.decimal.specs.Decimal.{decimal, row};
-ghost use Rattle.decimal.specs.Wrote.{Room, Wrote};
+ghost use Rattle.decimal.specs.Writing.{Fits, Writes};
 
-use crate::{put_byte, put_decimal, put_number};
+use crate::Pen;
 
-// A number without a sign, a space before it.
-pub fn put_field(out: &mut [u8], at: usize, n: u64) -> usize
-    requires { Room at (0x20 ∷ decimal n) out.old }
-    ensures { Wrote at (0x20 ∷ decimal n) out.old out.new result }
-{
-    let from = put_byte(out, at, b' ');
-    put_decimal(out, from, n)
-}
-
-// Two numbers without a sign, to the line's end.
-pub fn put_pair(out: &mut [u8], at: usize, m: u64, n: u64) -> usize
-    requires { Room at (row (pos m ∷ pos n ∷ [])) out.old }
-    ensures { Wrote at (row (pos m ∷ pos n ∷ [])) out.old out.new result }
-{
-    let a = put_field(out, at, m);
-    let b = put_field(out, a, n);
-    put_byte(out, b, b'\n')
-}
-
-// A line's last byte before its numbers, the n from a place on, the line's end.
-pub fn put_row(out: &mut [u8], at: usize, head: u8, zs: &[i64], from: usize, n: usize) -> usize
-    requires n_in_bounds { from + n ≤ length zs.now }
-    requires room { Room at (head ∷ row (take n (drop from zs.now))) out.old }
-    ensures { Wrote at (head ∷ row (take n (drop from zs.now))) out.old out.new result }
-{
-    let mut end = put_byte(out, at, head);
-    let mut i: usize = 0;
-    while i < n {
-        end = put_number(out, end, zs[from + i]);
-        i += 1;
+impl<'a> Pen<'a> {
+    // A number without a sign, a space before it.
+    pub fn field(&mut self, n: u64)
+        requires { Fits (0x20 ∷ decimal n) self.old }
+        ensures { Writes (0x20 ∷ decimal n) self.old self.new }
+    {
+        self.byte(b' ');
+        self.decimal(n);
     }
-    put_byte(out, end, b'\n')
+
+    // Two numbers without a sign, to the line's end.
+    pub fn pair(&mut self, m: u64, n: u64)
+        requires { Fits (row (pos m ∷ pos n ∷ [])) self.old }
+        ensures { Writes (row (pos m ∷ pos n ∷ [])) self.old self.new }
+    {
+        self.field(m);
+        self.field(n);
+        self.byte(b'\n');
+    }
+
+    // A line's last byte before its numbers, the numbers, the line's end.
+    pub fn row(&mut self, head: u8, zs: &[i64])
+        requires { Fits (head ∷ row zs.now) self.old }
+        ensures { Writes (head ∷ row zs.now) self.old self.new }
+    {
+        self.byte(head);
+        for z in zs {
+            self.number(*z);
+        }
+        self.byte(b'\n');
+    }
 }

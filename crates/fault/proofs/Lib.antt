@@ -1,2 +1,3 @@
 pub mod Asked
+mod InRange
 mod RuledOut

@@ -19,17 +19,21 @@ use Rattle.paper.specs.Phase.{only_if, voltage_of, four}
 use Rattle.paper.proofs.Told.{parts, sequences, small}
 use Rattle.fits.proofs.Plane.{plane_whole}
 use Rattle.fault.specs.declared.Shorted.{Shorted}
+use Rattle.fault.specs.declared.impedances.Impedances.{Impedances}
+use Rattle.fault.specs.declared.kinds.FaultKind.TheVariants.{ThreePhases, OneToEarth, TwoPhases, TwoToEarth, Nothing}
+use Rattle.fault.specs.declared.volts.OverD.{OverD}
+use Rattle.fault.specs.Kinds.{kind_of, number_of}
 use Rattle.fault.specs.Short.{shorted_of}
-use Rattle.lemmas.proofs.RuledOut.{◌↛◌, RuledOut, ever, by_equation, list, wholes}
-use Rattle.fault.proofs.divisor.num_of.Reads as num_of_contract
-use Rattle.fault.proofs.divisor.earthed.Reads as earthed
-use Rattle.fault.proofs.divisor.divisor.Reads as divisor
+use Rattle.lemmas.proofs.RuledOut.{◌↛◌, RuledOut, ever, by, by_equation, list, wholes}
+use Rattle.fault.proofs.impedances.Impedances.earthed.Reads as earthed
+use Rattle.fault.proofs.impedances.Impedances.divisor.Reads as divisor
+use Rattle.fault.proofs.kinds.FaultKindFromU8.from.Reads as from
 use Rattle.fault.proofs.seq.Reads as seq-of
 use Rattle.fault.proofs.unearthed.kind_at.Reads as kind_at
 use Rattle.fault.proofs.unearthed.zf_at.Reads as zf-at
 use Rattle.fault.proofs.unearthed.lift.Reads as lift
 use Rattle.fault.proofs.short.Reads as short
-use Rattle.fault.proofs.volts.first.Reads as first
+use Rattle.fault.proofs.volts.OverD.first.Reads as first
 use Rattle.fault.proofs.volts.voltage.Reads as voltage
 
 -- ---- whole numbers, j times a number; impedances of nothing and of j2
@@ -62,32 +66,51 @@ shorted d i1 i2 i0 up = record { d = pos d; i = seq i1 i2 i0; lift = up }
 abbrev ones : Seq
 ones = let one = whole_n (pos 1) in seq one one one
 
-ones_small : EachSeq (Plane most_i) ones
+pub ones_small : EachSeq (Plane most_i) ones
 ones_small = let p : Plane most_i (whole_n (pos 1)) = plane_whole (record { small = omega arith }) in record { e1 = p; e2 = p; e0 = p }
 
+-- ---- impedances, and 1 in each sequence over 4
+abbrev in_range : (z1 z2 z0 zf : Ohms) → AtMost 4095 z1 → AtMost 4095 z2 → AtMost 4095 z0 → AtMost 1365 zf → Impedances
+in_range z1 z2 z0 zf u1 u2 u0 uf = record { z1 = z1; z2 = z2; z0 = z0; zf = zf; z1_at_most = u1; z2_at_most = u2; z0_at_most = u0; zf_at_most = uf }
+
+abbrev over_4 : (i : Seq) → EachSeq (Plane most_i) i → OverD
+over_4 i p = record { d = pos 4; i = i; d_small = record { small = omega arith }; i_plane = p }
+
+-- Zf of j2 alone, and Z2 and Z0 of j2
+abbrev zf_alone : Impedances
+zf_alone = in_range none none none j2 (small tt) (small tt) (small tt) (small tt)
+
+abbrev to_divide : Impedances
+to_divide = in_range none j2 j2 none (small tt) (small tt) (small tt) (small tt)
+
+abbrev no_current : OverD
+no_current = let p : Plane most_i nil_n = plane_whole (record { small = omega arith }) in over_4 (seq nil_n nil_n nil_n) (record { e1 = p; e2 = p; e0 = p })
+
+abbrev one_current : OverD
+one_current = over_4 ones ones_small
+
 -- ---- the contracts
-pub num_of_not : RuledOut (num_of_contract.Pre tt) (ever (num_of_contract.Post tt)) (
-    (ohms 1 2, tt) ↛ complex_n (pos 2) (pos 1)  -- parts_exchanged
-    ∷ (ohms 1 2, tt) ↛ complex_n (pos 1) (pos 1)  -- resistance_twice
+pub from_not : RuledOut (from.Pre tt) (ever (from.Post tt)) (
+    (1, tt) ↛ TwoPhases  -- one_phase_is_two
+    ∷ (4, tt) ↛ ThreePhases  -- four_is_a_kind
     ∷ [])
-unfolding num_of
-num_of_not = by_equation (λ a. num_of a.0) told (λ a z e s. s) (tt, (tt, tt)) tt
+unfolding kind_of number_of
+from_not = by_equation (λ a. kind_of a.0) number_of (λ a z e s. s) (tt, (tt, tt)) tt
 
 pub earthed_not : RuledOut (earthed.Pre tt) (ever (earthed.Post tt)) (
-    (none, (j2, tt)) ↛ +j 2  -- zf_once
-    ∷ (none, (j2, tt)) ↛ +j 4  -- zf_twice
+    (zf_alone, tt) ↛ +j 2  -- zf_once
+    ∷ (zf_alone, tt) ↛ +j 4  -- zf_twice
     ∷ [])
 unfolding num_of G ◌+N◌
-earthed_not = by_equation (λ a. G nil_n nil_n (num_of a.0) (num_of a.1.0)) told (λ a z e s. s nil_n nil_n) ((small tt, small tt), ((small tt, small tt), tt)) tt
+earthed_not = by_equation (λ a. G (num_of a.0.z1) (num_of a.0.z2) (num_of a.0.z0) (num_of a.0.zf)) told (λ a z e s. s) (tt, (tt, tt)) tt
 
 pub divisor_not : RuledOut (divisor.Pre tt) (ever (divisor.Post tt)) (
-    (none, (j2, (j2, (none, (3, tt))))) ↛ nil_n  -- delta_without_g
-    ∷ (none, (j2, (j2, (none, (4, tt))))) ↛ +j 1  -- kind_4_by_j
+    (to_divide, (TwoToEarth, tt)) ↛ nil_n  -- delta_without_g
+    ∷ (to_divide, (Nothing, tt)) ↛ +j 1  -- kind_4_by_j
     ∷ [])
-unfolding fault_open ◌+N◌ neg_n ◌·N◌ times_t ◌*N◌ power_n
+unfolding number_of fault_open ◌+N◌ neg_n ◌·N◌ times_t ◌*N◌ power_n
 divisor_not =
-    by_equation (λ a. (short_of (num_of a.0) (num_of a.1.0) (num_of a.1.1.0) (num_of a.1.1.1.0) false a.1.1.1.1.0).divisor) told (λ a z e s. s)
-    ((small tt, (small tt, (small tt, small tt))), ((small tt, (small tt, (small tt, small tt))), tt)) tt
+    by_equation (λ a. (short_of (num_of a.0.z1) (num_of a.0.z2) (num_of a.0.z0) (num_of a.0.zf) false (number_of a.1.0)).divisor) told (λ a z e s. s) (tt, (tt, tt)) tt
 
 pub seq_not : RuledOut (seq-of.Pre tt) (ever (seq-of.Post tt)) (
     (+j 1, (+j 2, (+j 3, tt))) ↛ seq (+j 1) (+j 3) (+j 2)  -- sequences_exchanged
@@ -96,32 +119,32 @@ pub seq_not : RuledOut (seq-of.Pre tt) (ever (seq-of.Post tt)) (
 seq_not = by_equation (λ a. seq a.0 a.1.0 a.1.1.0) (λ s. wholes (sequences s)) (λ a z e s. s) (tt, (tt, tt)) tt
 
 pub kind_at_not : RuledOut (kind_at.Pre tt) (ever (kind_at.Post tt)) (
-    (1, (false, tt)) ↛ 1  -- one_phase_draws
-    ∷ (3, (false, tt)) ↛ 3  -- earth_current_without_return
-    ∷ (3, (true, tt)) ↛ 2  -- return_overlooked
-    ∷ (0, (false, tt)) ↛ 4  -- three_phases_draw_nothing
+    (OneToEarth, (false, tt)) ↛ OneToEarth  -- one_phase_draws
+    ∷ (TwoToEarth, (false, tt)) ↛ TwoToEarth  -- earth_current_without_return
+    ∷ (TwoToEarth, (true, tt)) ↛ TwoPhases  -- return_overlooked
+    ∷ (ThreePhases, (false, tt)) ↛ Nothing  -- three_phases_draw_nothing
     ∷ [])
-kind_at_not = by_equation (λ a. cond (not a.1.0) (get_or (0 ∷ 4 ∷ 2 ∷ 2 ∷ []) a.0 a.0) a.0) (λ n. n) (λ a z e s. s) (tt, (tt, (tt, (tt, tt)))) tt
+unfolding number_of
+kind_at_not = by number_of (λ a. let n = number_of a.0 in cond (not a.1.0) (get_or (0 ∷ 4 ∷ 2 ∷ 2 ∷ []) n n) n) (λ a z s. s.1) (tt, (tt, (tt, (tt, tt)))) tt
 
 pub zf_at_not : RuledOut (zf-at.Pre tt) (ever (zf-at.Post tt)) (
-    (j2, (3, (false, tt))) ↛ j2  -- zf_between_phases
-    ∷ (j2, (2, (false, tt))) ↛ none  -- zf_of_kind_2_lost
-    ∷ (j2, (3, (true, tt))) ↛ none  -- zf_lost_with_return
+    (j2, (TwoToEarth, (false, tt))) ↛ j2  -- zf_between_phases
+    ∷ (j2, (TwoPhases, (false, tt))) ↛ none  -- zf_of_kind_2_lost
+    ∷ (j2, (TwoToEarth, (true, tt))) ↛ none  -- zf_lost_with_return
     ∷ [])
-zf_at_not = by_equation (λ a. cond (not a.1.1.0 && eqb a.1.0 3) (ohms 0 0) a.0) (λ z. list (parts z)) (λ a z e s. s) (tt, (tt, (tt, tt))) tt
+unfolding number_of
+zf_at_not = by_equation (λ a. cond (not a.1.1.0 && eqb (number_of a.1.0) 3) (ohms 0 0) a.0) (λ z. list (parts z)) (λ a z e s. s) (tt, (tt, (tt, tt))) tt
 
 pub lift_not : RuledOut (lift.Pre tt) (ever (lift.Post tt)) (
-    (pos 4, (none, (nil_n, (1, (false, tt))))) ↛ w 4  -- one_phase_rises
-    ∷ (pos 4, (none, (nil_n, (3, (false, tt))))) ↛ neg_n (w 4)  -- two_phases_fall
-    ∷ (pos 4, (none, (nil_n, (2, (false, tt))))) ↛ w 4  -- lifted_clear_of_earth
-    ∷ (pos 4, (none, (nil_n, (3, (true, tt))))) ↛ w 4  -- lifted_with_return
+    (no_current, (zf_alone, (OneToEarth, (false, tt)))) ↛ w 4  -- one_phase_rises
+    ∷ (no_current, (zf_alone, (TwoToEarth, (false, tt)))) ↛ neg_n (w 4)  -- two_phases_fall
+    ∷ (no_current, (zf_alone, (TwoPhases, (false, tt)))) ↛ w 4  -- lifted_clear_of_earth
+    ∷ (no_current, (zf_alone, (TwoToEarth, (true, tt)))) ↛ w 4  -- lifted_with_return
     ∷ [])
-unfolding only_if fault_open ◌+N◌ neg_n ◌·N◌ times_t ◌*N◌
+unfolding number_of only_if fault_open ◌+N◌ neg_n ◌·N◌ times_t ◌*N◌
 lift_not =
-    by_equation (λ a. only_if (not a.1.1.1.1.0) (lift_of a.1.1.1.0 (whole_n a.0 -N num_of a.1.0 *N a.1.1.0))) told (λ a z e s. s) (asked, (asked, (asked, (asked, tt)))) tt
-  where
-    asked : Small most_d (pos 4) × (AtMost 4095 none × Plane most_i nil_n)
-    asked = (record { small = omega arith }, (small tt, plane_whole (record { small = omega arith })))
+    by_equation (λ a. only_if (not a.1.1.1.0) (lift_of (number_of a.1.1.0) (whole_n a.0.d -N num_of a.1.0.z1 *N a.0.i.s1))) told (λ a z e s. s)
+    (tt, (tt, (tt, (tt, tt)))) tt
 
 pub short_not : RuledOut (short.Pre tt) (ever (short.Post tt)) (
     kind 0 ↛ shorted 1 (-j 2) nil_n nil_n nil_n  -- d_is_one
@@ -153,14 +176,11 @@ short_not =
     no_return = (small tt, (small tt, (small tt, small tt)))
 
 pub first_not : RuledOut (first.Pre tt) (ever (first.Post tt)) (
-    (pos 4, (j2, (w 1, tt))) ↛ complex_n (pos 1) (negsuc 1)  -- one_for_d
-    ∷ (pos 4, (j2, (w 1, tt))) ↛ complex_n (pos 4) (pos 2)  -- drop_added
+    (one_current, (j2, tt)) ↛ complex_n (pos 1) (negsuc 1)  -- one_for_d
+    ∷ (one_current, (j2, tt)) ↛ complex_n (pos 4) (pos 2)  -- drop_added
     ∷ [])
 unfolding num_of ◌+N◌ neg_n ◌·N◌ times_t ◌*N◌
-first_not = by_equation (λ a. whole_n a.0 -N num_of a.1.0 *N a.1.1.0) told (λ a z e s. s) (asked, (asked, tt)) tt
-  where
-    asked : Small most_d (pos 4) × (AtMost 4095 j2 × Plane most_i (w 1))
-    asked = (record { small = omega arith }, (small tt, ones_small.e1))
+first_not = by_equation (λ a. whole_n a.0.d -N num_of a.1.0 *N a.0.i.s1) told (λ a z e s. s) (small tt, (small tt, tt)) tt
 
 -- a board that shares j2 in the first two sequences, and one that shares nothing and is lifted by 3
 abbrev shares : ℤ × (Seq × (Ohms × (Ohms × (Ohms × (Num × Unit {0})))))

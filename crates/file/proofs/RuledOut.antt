@@ -13,7 +13,7 @@ use Rattle.paper.specs.declared.Ohms.{Ohms}
 use Rattle.paper.specs.declared.Head.{Head}
 use Rattle.paper.specs.declared.Board.{Board}
 use Rattle.paper.specs.declared.Fault.{Fault}
-use Rattle.paper.specs.Bytes.{u8_at, u16_at, bytes_at, within, bytes_open}
+use Rattle.paper.specs.Bytes.{u16_at, bytes_at, within, bytes_open}
 use Rattle.paper.specs.Label.{spaces, label_open}
 use Rattle.paper.specs.Kind.{ohms}
 use Rattle.paper.specs.File.{ohms_at, head_of, board_of, fault_of}
@@ -118,7 +118,8 @@ module _ (κ : Lft) where
       (lent (bytes 0 12), (0, tt)) ↛ (bytes 0 11 ++ (10 ∷ []))  -- label_last_byte_lost
       ∷ (lent (bytes 0 12), (0, tt)) ↛ (0 ∷ 2 ∷ bytes 2 10)  -- label_second_byte_skipped
       ∷ [])
-  label_at_not = by_equation (λ a. u8_at a.0.now a.1.0 ∷ tab (λ n. u8_at a.0.now (a.1.0 + n)) 1 11) list (λ a z e s. s) (omega arith, (omega arith, tt)) tt
+  unfolding bytes_open
+  label_at_not = by_equation (λ a. bytes_at 12 a.0.now a.1.0) list (λ a z e s. s) (omega arith, (omega arith, tt)) tt
 
   pub head_of_not : RuledOut (head_of.Pre (κ, tt)) (ever (head_of.Post (κ, tt))) (
       (lent (bytes 0 8), tt) ↛ head (two 2) (two 4) (two 4)  -- head_n_is_the_unit

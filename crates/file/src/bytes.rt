@@ -9,13 +9,10 @@ pub fn head_of(s: &[u8]) -> Head
     requires { 8 ≤ length s.now }
     ensures { result ≡ head_of s.now }
 {
-    let volts = u16_at(s, 2);
-    let unit = u16_at(s, 4);
-    let boards = u16_at(s, 6);
     Head {
-        volts,
-        unit,
-        boards,
+        volts: u16_at(s, 2),
+        unit: u16_at(s, 4),
+        boards: u16_at(s, 6),
     }
 }
 
@@ -23,23 +20,15 @@ pub fn board_of(s: &[u8]) -> Board
     requires { length s.now ≡ 44 }
     ensures { result ≡ board_of s.now }
 {
-    let z1 = ohms_at(s, 28);
-    let z2 = ohms_at(s, 32);
-    let z0 = ohms_at(s, 36);
-    let zn = ohms_at(s, 40);
-    let label = label_at(s, 2);
-    let feeder = label_at(s, 14);
-    let kind = s[26];
-    let clock = s[27];
     Board {
-        z1,
-        z2,
-        z0,
-        zn,
-        label,
-        feeder,
-        kind,
-        clock,
+        label: label_at(s, 2),
+        feeder: label_at(s, 14),
+        kind: s[26],
+        clock: s[27],
+        z1: ohms_at(s, 28),
+        z2: ohms_at(s, 32),
+        z0: ohms_at(s, 36),
+        zn: ohms_at(s, 40),
     }
 }
 
@@ -47,14 +36,10 @@ pub fn fault_of(s: &[u8]) -> Fault
     requires { length s.now ≡ 20 }
     ensures { result ≡ fault_of s.now }
 {
-    let zf = ohms_at(s, 16);
-    let label = label_at(s, 2);
-    let kind = s[14];
-    let phase = s[15];
     Fault {
-        zf,
-        label,
-        kind,
-        phase,
+        label: label_at(s, 2),
+        kind: s[14],
+        phase: s[15],
+        zf: ohms_at(s, 16),
     }
 }

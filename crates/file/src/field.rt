@@ -25,7 +25,7 @@ pub const FAULT_LABEL: usize = 2;
 pub fn pair(low: u8, high: u8) -> u16
     ensures { result ≡ low + 256 * high }
 {
-    (low as u16) + 256 * (high as u16)
+    u16::from_le_bytes([low, high])
 }
 
 pub fn u16_at(s: &[u8], i: usize) -> u16
@@ -46,30 +46,17 @@ pub(crate) fn ohms_at(s: &[u8], i: usize) -> Ohms
     requires { i + 3 < length s.now }
     ensures { result ≡ ohms_at s.now i }
 {
-    let r = u16_at(s, i);
-    let x = u16_at(s, i + 2);
-    Ohms { r, x }
+    Ohms {
+        r: u16_at(s, i),
+        x: u16_at(s, i + 2),
+    }
 }
 
-// The contract names the bytes as the code reads them, so that it needs no proof.
 pub(crate) fn label_at(s: &[u8], i: usize) -> [u8; 12]
     requires { i + 11 < length s.now }
-    ensures { result ≡ u8_at s.now i ∷ tab (λ n. u8_at s.now (i + n)) 1 11 }
+    ensures { result ≡ bytes_at label_size s.now i }
 {
-    [
-        s[i],
-        s[i + 1],
-        s[i + 2],
-        s[i + 3],
-        s[i + 4],
-        s[i + 5],
-        s[i + 6],
-        s[i + 7],
-        s[i + 8],
-        s[i + 9],
-        s[i + 10],
-        s[i + 11],
-    ]
+    <[u8; 12]>::try_from(&s[i..i + 12]).unwrap()
 }
 
 // The label at a place of bytes that have the size they must have; of others twelve spaces, which are no label.

@@ -8,8 +8,5 @@ use paper::Head;
 pub fn head_wrong(h: Head) -> bool
     ensures { result ≡ not (head_ranges h) }
 {
-    let volts = in_range(1, 1000, h.volts);
-    let unit = in_range(10, 1000, h.unit);
-    let boards = in_range(1, 256, h.boards);
-    !(volts & unit & boards)
+    !(in_range(1, 1000, h.volts) & in_range(10, 1000, h.unit) & in_range(1, 256, h.boards))
 }

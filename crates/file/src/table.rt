@@ -7,15 +7,13 @@ use paper::{Board, Ohms};
 pub fn empty_board() -> Board
     ensures { result ≡ empty_board }
 {
-    let zero = Ohms { r: 0, x: 0 };
-    let label = [0u8; 12];
     Board {
-        z1: zero,
-        z2: zero,
-        z0: zero,
-        zn: zero,
-        label,
-        feeder: label,
+        z1: Ohms::ZERO,
+        z2: Ohms::ZERO,
+        z0: Ohms::ZERO,
+        zn: Ohms::ZERO,
+        label: [0; 12],
+        feeder: [0; 12],
         kind: 0,
         clock: 0,
     }

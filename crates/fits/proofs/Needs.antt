@@ -1,4 +1,4 @@
--- What `phasor` asks at each step, in the order in which the table is computed: of add, sub, conj and turn each operand (Addable), of mul both (Factors), of neg
+-- What the operations on numbers ask at each step, in the order in which the table is computed: of +, the binary -, conj and turn each operand (Addable), of * both (Factors), of the other -
 -- and square theirs. Assumes nothing.
 use mathlib.Core.Path.{◌≡◌, sym, subst}
 use Prim.Native.Nat.{ℕ}
@@ -8,7 +8,7 @@ use Rattle.lemmas.specs.Small.{Small}
 use Rattle.turn.specs.declared.Num.{Num}
 use Rattle.turn.specs.Number.{whole_n, one_n, ◌+N◌, ◌-N◌, ◌*N◌, turn_n, conj_n}
 use Rattle.turn.specs.Bounds.{Within}
-use Rattle.phasor.specs.Bounds.{Addable, Negatable, Squarable, Factors}
+use Rattle.turn.specs.Bounds.{Addable, Negatable, Squarable, Factors}
 use Rattle.turn.proofs.Within.{within_weak, within_add, within_turn}
 use Rattle.paper.specs.declared.Ohms.{Ohms}
 use Rattle.paper.specs.declared.Seq.{Seq}

@@ -1,2 +1,2 @@
-// No functions: proofs/ shows that every number of the paper fits its word, and meets what `phasor` asks.
+// No functions: proofs/ shows that every number of the paper fits its word, and meets what the operations on numbers ask.
 #![tactic(auto)]

@@ -19,7 +19,6 @@ pub mod Joined
 pub mod KindTable
 -- what the tests of the refusal table give
 pub mod Rows
-pub mod Outcome
 pub mod Numbered
 pub mod Fit
 pub mod Sound

@@ -1,23 +1,23 @@
--- The bytes of a list, taken one behind the other, are the list. Assumes nothing.
-use mathlib.Core.List.{List, [], ◌∷◌, ◌++◌}
-use mathlib.Core.Path.{◌≡◌, refl, sym, ◌∙◌}
-use Prim.Native.Nat.{ℕ, ◌+◌, ◌≤◌}
+-- Bytes that are taken one behind the other are a part of the list. Assumes nothing.
+use mathlib.Core.List.{List, ◌∷◌}
+use mathlib.Core.Path.{◌≡◌, refl, sym, ◌∙◌, ap}
+use Prim.Native.Nat.{ℕ, zero, suc, ◌+◌, ◌≤◌}
 use native.Mathlib.Omega.{arith}
-use lib.ListN.{length, take, drop, length-append, take-append-drop}
-use lib.Seq.{get_or-append_seam, append_snoc, length-take-le, take_all}
+use lib.ListN.{length, get_or, take, drop}
+use lib.Seq.{drop-cons, take_all}
 use Rattle.paper.specs.Bytes.{bytes_at}
 
-bytes_from : (pre l post : List ℕ) → bytes_at (length l) (pre ++ (l ++ post)) (length pre) ≡ l
+pub part_bytes : (n i : ℕ) (s : List ℕ) → i + n ≤ length s → bytes_at n s i ≡ take n (drop i s)
 unfolding bytes_at
-bytes_from pre [] post = refl
-bytes_from pre (x ∷ l) post =
-    let one : length pre + 1 ≡ length (pre ++ (x ∷ [])) = omega (arith, length-append pre (x ∷ [])) in
-    λ i. get_or-append_seam pre x (l ++ post) 0 i
-    ∷ ((λ j. bytes_at (length l) (sym (append_snoc pre x (l ++ post)) j) (one j)) ∙ bytes_from (pre ++ (x ∷ [])) l post) i
+part_bytes zero i s h = refl
+part_bytes (suc n) i s h =
+    let next : i + 1 ≡ suc i = omega arith in
+    ap (λ (l : List ℕ). get_or s i 0 ∷ l) (part_bytes n (i + 1) s (omega arith) ∙ ap (λ (m : ℕ). take n (drop m s)) next)
+    ∙ ap (take (suc n)) (sym (drop-cons s i 0 (omega arith)))
 
 -- from the front on
 pub front_bytes : (k : ℕ) (s : List ℕ) → k ≤ length s → bytes_at k s 0 ≡ take k s
-front_bytes k s h = (λ i. bytes_at (sym (length-take-le k s h) i) (sym (take-append-drop k s) i) 0) ∙ bytes_from [] (take k s) (drop k s)
+front_bytes k s h = part_bytes k 0 s (omega arith)
 
 pub all_bytes : (s : List ℕ) (k : ℕ) → length s ≡ k → bytes_at k s 0 ≡ s
 all_bytes s k e = front_bytes k s (omega arith) ∙ take_all k s (omega arith)

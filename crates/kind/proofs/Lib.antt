@@ -1,3 +1,4 @@
+mod ByName
 mod ClockRows
 mod HoldRows
 mod ZeroRows

@@ -1,7 +1,7 @@
 -- What each contract of this crate rules out: a call that it allows, and an answer that it does not. Assumes nothing.
 use mathlib.Core.Bool.{true, false}
 use mathlib.Core.List.{[], ◌∷◌}
-use Prim.Native.Nat.{ℕ}
+use Prim.Native.Nat.{ℕ, ◌+◌}
 use lib.ListN.{replicate}
 use Rattle.paper.specs.declared.Ohms.{Ohms}
 use Rattle.paper.specs.declared.Board.{Board}
@@ -9,12 +9,16 @@ use Rattle.paper.specs.Bytes.{one_of, within}
 use Rattle.paper.specs.Kind.{ohms, ◌+Ω◌, thrice, is_zero, same_ohms, part_over, kinds, known, kind_of, stands_at, holds, all_hold, term, zero_term}
 use Rattle.paper.proofs.Told.{parts, small}
 use Rattle.paper.specs.Refusal.{kind_wrong, impedance_wrong, z1_forgotten}
+use Rattle.kind.specs.Named.{number_of, named}
 use Rattle.kind.specs.Zero.{zero_word}
+use Rattle.kind.specs.declared.Kind.{Kind}
+use Rattle.kind.specs.declared.Kind.TheVariants.{Source, DeltaStar, Blocking}
+use Rattle.kind.specs.declared.UnknownKind.{UnknownKind}
 use Rattle.kind.specs.declared.zero.ZeroWord.{ZeroWord}
 use Rattle.kind.specs.declared.zero.ZeroWord.TheVariants.{Starts, GoesOn, Blocked}
 use Rattle.lemmas.proofs.RuledOut.{◌↛◌, RuledOut, ever, by_equation, bool, list}
-use Rattle.kind.proofs.impedance.is_zero.Reads as is_zero
-use Rattle.kind.proofs.impedance.same_ohms.Reads as same-ohms
+use Rattle.std.specs.Prelude.{Result, Ok, Err}
+use Rattle.kind.proofs.KindTryFromU8.try_from.Reads as try-from
 use Rattle.kind.proofs.impedance.over.Reads as over
 use Rattle.kind.proofs.clock.kind_wrong.Reads as kind_wrong_call
 use Rattle.kind.proofs.must_hold.impedance_wrong.Reads as impedance-wrong
@@ -23,6 +27,10 @@ use Rattle.kind.proofs.zero.zero_word.Reads as zero_word
 use Rattle.kind.proofs.zero.zero_term.Reads as zero-term
 
 -- ---- answers told apart
+abbrev kind_told : Result Kind UnknownKind → ℕ
+kind_told (Ok k) = 1 + number_of k
+kind_told (Err u) = 0
+
 abbrev word : ZeroWord → ℕ
 word Starts = 0
 word GoesOn = 1
@@ -42,19 +50,13 @@ abbrev turned : ℕ → ℕ → Board
 turned k c = board k c one one none none
 
 -- ---- the contracts
-pub is_zero_not : RuledOut (is_zero.Pre tt) (ever (is_zero.Post tt)) (
-    (ohms 1 0, tt) ↛ true  -- zero_by_one_part
-    ∷ (ohms 0 1, tt) ↛ true  -- zero_by_r_twice
+pub try_from_not : RuledOut (try-from.Pre tt) (ever (try-from.Post tt)) (
+    (6, tt) ↛ Ok Blocking  -- kind_6_blocks
+    ∷ (5, tt) ↛ Err (record { 0 = 5 })  -- five_kinds
+    ∷ (1, tt) ↛ Ok Source  -- floating_taken_for_earthed
+    ∷ (3, tt) ↛ Ok DeltaStar  -- star_star_taken_for_delta_star
     ∷ [])
-unfolding is_zero
-is_zero_not = by_equation (λ a. is_zero a.0) bool (λ a z e s. s) (tt, (tt, tt)) tt
-
-pub same_ohms_not : RuledOut (same-ohms.Pre tt) (ever (same-ohms.Post tt)) (
-    (ohms 1 2, (ohms 1 3, tt)) ↛ true  -- same_by_one_part
-    ∷ (ohms 1 2, (ohms 2 1, tt)) ↛ true  -- same_by_the_other_part
-    ∷ [])
-unfolding same_ohms
-same_ohms_not = by_equation (λ a. same_ohms a.0 a.1.0) bool (λ a z e s. s) (tt, (tt, tt)) tt
+try_from_not = by_equation (λ a. named a.0) kind_told (λ a z e s. s) (tt, (tt, (tt, (tt, tt)))) tt
 
 pub over_not : RuledOut (over.Pre tt) (ever (over.Post tt)) (
     (4095, (ohms 4095 0, tt)) ↛ true  -- over_at_the_most

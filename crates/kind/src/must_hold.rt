@@ -3,8 +3,9 @@ ghost use Rattle.std.specs.Prelude.{◌≡◌};
 ghost use Rattle.paper.specs.Kind.{kind_of, all_hold};
 ghost use Rattle.paper.specs.Refusal.{impedance_wrong};
 
-use crate::impedance::{is_zero, over, same_ohms};
-use paper::Board;
+use crate::Kind;
+use crate::impedance::over;
+use paper::{Board, Ohms};
 
 // The most that a part of an impedance may be.
 const MOST: u16 = 4095;
@@ -12,32 +13,23 @@ const MOST: u16 = 4095;
 fn rules_hold(b: Board) -> bool
     ensures { result ≡ all_hold (kind_of b.kind).rules b }
 {
-    let kind = b.kind;
-    let z1 = b.z1;
-    let z2 = b.z2;
-    let z0 = b.z0;
-    let zn = b.zn;
-    let live = !is_zero(z1) & !is_zero(z2);
-    let same = same_ohms(z1, z2);
-    let no_z0 = is_zero(z0);
-    let no_zn = is_zero(zn);
-    match kind {
-        0 => live,
-        1 => live & no_z0 & no_zn,
-        2 => same & no_zn,
-        3 => same,
-        4 => same,
-        5 => same & no_z0 & no_zn,
-        _ => true,
+    let live = (b.z1 != Ohms::ZERO) & (b.z2 != Ohms::ZERO);
+    let same = b.z1 == b.z2;
+    let no_z0 = b.z0 == Ohms::ZERO;
+    let no_zn = b.zn == Ohms::ZERO;
+    match Kind::try_from(b.kind) {
+        Ok(Kind::Source) => live,
+        Ok(Kind::FloatingSource) => live & no_z0 & no_zn,
+        Ok(Kind::Cable) => same & no_zn,
+        Ok(Kind::StarStar) => same,
+        Ok(Kind::DeltaStar) => same,
+        Ok(Kind::Blocking) => same & no_z0 & no_zn,
+        Err(_) => true,
     }
 }
 
 pub fn impedance_wrong(b: Board) -> bool
     ensures { result ≡ impedance_wrong b }
 {
-    let z1 = b.z1;
-    let z2 = b.z2;
-    let z0 = b.z0;
-    let zn = b.zn;
-    over(MOST, z1) | over(MOST, z2) | over(MOST, z0) | over(MOST, zn) | !rules_hold(b)
+    over(MOST, b.z1) | over(MOST, b.z2) | over(MOST, b.z0) | over(MOST, b.zn) | !rules_hold(b)
 }

@@ -4,10 +4,11 @@ ghost use Rattle.paper.specs.Kind.{◌+Ω◌, thrice, kind_of, zero_term};
 ghost use Rattle.paper.specs.Bounds.{AtMost};
 ghost use Rattle.kind.specs.Zero.{zero_word};
 
+use crate::Kind;
 use paper::{Board, Ohms};
 
 // The column "Zero sequence" without its terms.
-#[derive(Clone, Copy)]
+#[derive(Clone, Copy, PartialEq, Eq)]
 pub enum ZeroWord {
     Starts,
     GoesOn,
@@ -17,12 +18,14 @@ pub enum ZeroWord {
 pub fn zero_word(kind: u8) -> ZeroWord
     ensures { result ≡ zero_word (kind_of kind).zero_seq }
 {
-    match kind {
-        0 => ZeroWord::Starts,
-        2 => ZeroWord::GoesOn,
-        3 => ZeroWord::GoesOn,
-        4 => ZeroWord::Starts,
-        _ => ZeroWord::Blocked,
+    match Kind::try_from(kind) {
+        Ok(Kind::Source) => ZeroWord::Starts,
+        Ok(Kind::FloatingSource) => ZeroWord::Blocked,
+        Ok(Kind::Cable) => ZeroWord::GoesOn,
+        Ok(Kind::StarStar) => ZeroWord::GoesOn,
+        Ok(Kind::DeltaStar) => ZeroWord::Starts,
+        Ok(Kind::Blocking) => ZeroWord::Blocked,
+        Err(_) => ZeroWord::Blocked,
     }
 }
 
@@ -40,15 +43,14 @@ pub fn zero_term(b: Board) -> Ohms
     requires { AtMost 4095 b.z0 × AtMost 4095 b.zn }
     ensures { result ≡ zero_term (kind_of b.kind).zero_seq b }
 {
-    let kind = b.kind;
-    let z0 = b.z0;
-    let zn = b.zn;
-    let earthed = with_neutral(z0, zn);
-    match kind {
-        0 => earthed,
-        2 => z0,
-        3 => earthed,
-        4 => earthed,
-        _ => Ohms { r: 0, x: 0 },
+    let earthed = with_neutral(b.z0, b.zn);
+    match Kind::try_from(b.kind) {
+        Ok(Kind::Source) => earthed,
+        Ok(Kind::FloatingSource) => Ohms::ZERO,
+        Ok(Kind::Cable) => b.z0,
+        Ok(Kind::StarStar) => earthed,
+        Ok(Kind::DeltaStar) => earthed,
+        Ok(Kind::Blocking) => Ohms::ZERO,
+        Err(_) => Ohms::ZERO,
     }
 }

@@ -1,9 +1,9 @@
 -- What a search among boards in capitals gives: the places as the paper has them. Assumes nothing.
-use Rattle.std.proofs.Common.{◌≡◌, ℕ, ◌^◌, ◌<◌, ◌≤◌, map, length, ap, ◌∙◌, arith}
+use Rattle.std.proofs.Common.{List, ◌≡◌, ℕ, ◌^◌, ◌<◌, ◌≤◌, map, length, ap, ◌∙◌, arith}
 use Rattle.paper.specs.Label.{Label, capitals}
 use Rattle.paper.specs.Chain.{Boards, place_of}
 use Rattle.follows.proofs.Places.{place_most}
-use Rattle.label.specs.declared.places.Places.{Places}
+use Rattle.label.specs.declared.places.Place.{Place}
 use Rattle.follows.specs.Capitals.{board_in_capitals}
 use Rattle.label.specs.Places.{spelt_at, places_with, found_in}
 use Rattle.label.proofs.SpeltAt.{place_capitals, places_capitals}
@@ -15,5 +15,5 @@ module _ (bs : Boards) (l : Label) {ups : Boards} {wanted : Label} (e : ups ≡ 
   pub asked_fits : {k : ℕ} → length bs ≤ 256 → k ≡ spelt_at wanted ups → k < 2 ^ 16
   asked_fits few g = omega (arith, asked_is g, place_most l bs)
 
-  pub found_is : {p : Places} {k : ℕ} → p ≡ places_with spelt_at ups → k ≡ spelt_at wanted ups → record { places = p; asked = k } ≡ found_in bs l
+  pub found_is : {p : List Place} {k : ℕ} → p ≡ places_with spelt_at ups → k ≡ spelt_at wanted ups → record { places = p; asked = k } ≡ found_in bs l
   found_is g h = λ i. record { places = (g ∙ ap (places_with spelt_at) e ∙ places_capitals bs) i; asked = asked_is h i }

@@ -6,5 +6,4 @@ mod SpeltAt
 mod FoundIn
 pub mod PlacesLaws
 mod Filled
-mod Rest
 mod RuledOut

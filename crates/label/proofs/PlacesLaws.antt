@@ -1,29 +1,18 @@
 -- What `places_of` says of each board, and what a place among all boards says of those before a board. Assumes nothing.
-use Rattle.std.proofs.Common.{◌≡◌, ℕ, zero, suc, ◌<◌, ◌≤◌, cond, leb, ◌++◌, length, get_or, refl, ◌∙◌, arith, le-leb}
+use Rattle.std.proofs.Common.{map, ◌≡◌, ℕ, zero, suc, ◌<◌, cond, leb, ◌++◌, length, get_or, refl, ◌∙◌, arith, le-leb}
 use borrow.Author.Tests.{lt-leb}
+use lib.ListN.{length-map}
+use Rattle.std.proofs.lemmas.List.{get_or-map}
 use Rattle.paper.specs.Label.{Label}
 use Rattle.paper.specs.Chain.{Boards, no_board, look_from, place_of}
 use Rattle.follows.proofs.Places.{Looked, missing, found, looked, place_most, place_stays, place_behind}
-use Rattle.label.specs.Places.{places_with, places_of}
-use Rattle.label.proofs.Filled.{padded_long, places_at}
+use Rattle.node.proofs.Tables.{table_at}
+use Rattle.label.specs.Places.{no_place, place_with, places_with, places_of}
 
-module _ (bs : Boards) where
-  pub own_long : length (places_of bs).own ≡ 256
-  unfolding places_of places_with
-  own_long = padded_long 256 _
-
-  pub fed_long : length (places_of bs).fed ≡ 256
-  unfolding places_of places_with
-  fed_long = padded_long 256 _
-
-  module _ (i : ℕ) (short : length bs ≤ 256) (l : i < length bs) where
-    pub own_at : get_or (places_of bs).own i 0 ≡ place_of (get_or bs i no_board).label bs
-    unfolding places_of places_with
-    own_at = places_at place_of (λ b. b.label) bs i short l
-
-    pub fed_at : get_or (places_of bs).fed i 0 ≡ place_of (get_or bs i no_board).feeder bs
-    unfolding places_of places_with
-    fed_at = places_at place_of (λ b. b.feeder) bs i short l
+pub places_at : (bs : Boards) (i : ℕ) → i < length bs → get_or (places_of bs) i no_place ≡ place_with place_of bs (get_or bs i no_board)
+unfolding places_of places_with
+places_at bs i h =
+    table_at no_place (map (place_with place_of bs) bs) i no_place (omega (arith, length-map bs (place_with place_of bs))) ∙ get_or-map (place_with place_of bs) bs i no_board no_place h
 
 -- the place of a label among the boards before is its place among all, where that is one of theirs
 pub place_before : (l : Label) (before rest : Boards) → place_of l before ≡ cond (leb (place_of l (before ++ rest)) (length before)) (place_of l (before ++ rest)) 0

@@ -1,8 +1,9 @@
--- What each contract of this crate rules out: a call that it allows, and an answer that it does not. The rows of `find` and `find_all` are said of their callers, `lookup` and `lookup_all`; those of `capital` of its caller `in_capitals`, those of `letters_then_spaces` of `formed`.
+-- What each contract of this crate rules out: a call that it allows, and an answer that it does not. The rows of `letters_then_spaces` are said of its caller `formed`.
 -- Assumes nothing.
-use Rattle.std.proofs.Common.{ℕ, ◌-◌, true, false, List, [], ◌∷◌, ◌++◌, length, take, replicate, refl, arith}
+use Rattle.std.proofs.Common.{Bor, MutBor, ap, ℕ, ◌-◌, true, false, List, [], ◌∷◌, ◌++◌, length, take, replicate, refl, arith}
+use lib.Dec.{lit≤}
 use base.Fml.{Lft}
-use Rattle.lemmas.proofs.RuledOut.{◌↛◌, RuledOut, ever, by_equation, bool, list, lent}
+use Rattle.lemmas.proofs.RuledOut.{◌↛◌, RuledOut, ever, ends, by, by_equation, bool, list, lent, lent_out}
 use Rattle.paper.specs.declared.Ohms.{Ohms}
 use Rattle.paper.specs.declared.Board.{Board}
 use Rattle.paper.specs.Bytes.{text, same_bytes, bytes_open}
@@ -11,18 +12,18 @@ use Rattle.paper.specs.Label.{spaces, formed, capitals, label_open}
 use Rattle.paper.specs.Chain.{look_from}
 use Rattle.paper.specs.File.{boards_of, file_open}
 use Rattle.paper.proofs.Told.{parts}
-use Rattle.label.specs.declared.places.Places.{Places}
+use Rattle.label.specs.declared.places.Place.{Place}
 use Rattle.label.specs.declared.places.Found.{Found}
 use Rattle.follows.specs.Capitals.{board_in_capitals}
-use Rattle.label.specs.Places.{spelt_at, places_with, found_in, places_open}
+use Rattle.label.specs.Places.{no_place, spelt_at, places_with, found_in, places_open}
 use Rattle.label.proofs.case.in_capitals.Reads as in_capitals_call
 use Rattle.label.proofs.case.board_in_capitals.Reads as board-in-capitals
 use Rattle.label.proofs.same_bytes.Reads as same_bytes
 use Rattle.label.proofs.is_spaces.Reads as is-spaces
 use Rattle.label.proofs.formed.formed.Reads as formed-at
 use Rattle.label.proofs.search.labelled.Reads as labelled
-use Rattle.label.proofs.search.lookup.Reads as lookup
-use Rattle.label.proofs.places.lookup_all.Reads as lookup-all
+use Rattle.label.proofs.search.find.Reads as find
+use Rattle.label.proofs.places.find_all.Reads as find-all
 use Rattle.label.proofs.places.places_in.Reads as places-in
 
 -- ---- labels: n letters A; one letter; letters with a space at place n; eleven letters and a byte
@@ -52,12 +53,21 @@ boards = board 65 32 ∷ board 66 65 ∷ board 65 66 ∷ board 67 65 ∷ replica
 abbrev typed : List Board
 typed = board 65 32 ∷ board 66 97 ∷ board 67 66 ∷ board 98 65 ∷ replicate 252 (board 68 65)
 
--- ---- 256 places: what there is, then the same
-abbrev places : ℕ → List ℕ → List ℕ → Places
-places rest own fed = record { own = own ++ replicate (256 - length own) rest; fed = fed ++ replicate (256 - length fed) rest }
+-- ---- 256 places: what there is, by the own places and the feeders', then the same
+abbrev place : ℕ → ℕ → Place
+place o f = record { own = o; fed = f }
 
-abbrev of_places : Places → List ℕ
-of_places p = p.own ++ p.fed
+abbrev pairs : List ℕ → List ℕ → List Place
+pairs [] fed = []
+pairs (o ∷ own) [] = []
+pairs (o ∷ own) (f ∷ fed) = place o f ∷ pairs own fed
+
+abbrev places : ℕ → List ℕ → List ℕ → List Place
+places rest own fed = pairs own fed ++ replicate (256 - length own) (place rest rest)
+
+abbrev of_places : List Place → List ℕ
+of_places [] = []
+of_places (p ∷ ps) = p.own ∷ p.fed ∷ of_places ps
 
 -- ---- a network of four records by label and feeder, and what is found in one
 abbrev rec : ℕ → ℕ → List ℕ
@@ -143,34 +153,41 @@ pub labelled_not : RuledOut (labelled.Pre tt) (ever (labelled.Post tt)) (
 unfolding bytes_open
 labelled_not = by_equation (λ a. same_bytes a.1.0 a.0.label) bool (λ a z e s. s) (tt, (tt, (tt, tt))) tt
 
-module _ (κ : Lft) where
-  pub lookup_not : RuledOut (lookup.Pre (κ, tt)) (ever (lookup.Post (κ, tt))) (
-      (lent boards, (2, (letter 65, tt))) ↛ 0  -- find_from_second
-      ∷ (lent boards, (2, (letter 66, tt))) ↛ 1  -- find_counts_from_0
-      ∷ (lent boards, (3, (letter 65, tt))) ↛ 3  -- find_last
-      ∷ (lent boards, (2, (letter 67, tt))) ↛ 4  -- lookup_all_256
-      ∷ (lent boards, (3, (letter 67, tt))) ↛ 4  -- lookup_one_more
-      ∷ (lent boards, (2, (letter 98, tt))) ↛ 2  -- find_in_either_case
-      ∷ [])
-  unfolding places_open bytes_open
-  lookup_not =
-      by_equation (λ a. spelt_at a.1.1.0 (take a.1.0 a.0.now)) (λ n. n) (λ a z e s. s)
-      (omega arith, (omega arith, (omega arith, (omega arith, (omega arith, (omega arith, tt)))))) tt
+-- a table that says no place is lent, and left with places
+abbrev among : List Board → Bor (List Board) × (MutBor (List Place) × Unit {0})
+among bs = (lent bs, (lent_out (replicate 256 no_place), tt))
 
-  pub lookup_all_not : RuledOut (lookup-all.Pre (κ, tt)) (ever (lookup-all.Post (κ, tt))) (
-      (lent boards, (2, tt)) ↛ places 0 (0 ∷ 1 ∷ []) (1 ∷ 2 ∷ [])  -- find_all_exchanged
-      ∷ (lent boards, (2, tt)) ↛ places 0 (0 ∷ 2 ∷ []) (0 ∷ 1 ∷ [])  -- find_all_from_second
-      ∷ (lent boards, (2, tt)) ↛ places 0 (0 ∷ 1 ∷ []) (0 ∷ 1 ∷ [])  -- find_all_own_of_feeder
-      ∷ (lent boards, (2, tt)) ↛ places 1 (1 ∷ 2 ∷ []) (0 ∷ 1 ∷ [])  -- find_all_pads_with_1
-      ∷ (lent boards, (2, tt)) ↛ places_with spelt_at boards  -- lookup_all_all_256
-      ∷ (lent boards, (3, tt)) ↛ places 0 (0 ∷ 1 ∷ 2 ∷ []) (1 ∷ 2 ∷ 1 ∷ [])  -- lookup_all_exchanged
-      ∷ (lent typed, (4, tt)) ↛ places 0 (1 ∷ 2 ∷ 3 ∷ 2 ∷ []) (0 ∷ 0 ∷ 2 ∷ 1 ∷ [])  -- own_in_either_case
-      ∷ (lent typed, (4, tt)) ↛ places 0 (1 ∷ 2 ∷ 3 ∷ 4 ∷ []) (0 ∷ 1 ∷ 2 ∷ 1 ∷ [])  -- feeder_in_either_case
+abbrev among_left : List Board → List Place → Unit {0} × (Bor (List Board) × (MutBor (List Place) × Unit {0}))
+among_left bs ps = (tt, (lent bs, (lent_out ps, tt)))
+
+module _ (κ : Lft) where
+  pub find_not : RuledOut (find.Pre (κ, tt)) (ever (find.Post (κ, tt))) (
+      (lent (take 2 boards), (letter 65, tt)) ↛ 0  -- find_from_second
+      ∷ (lent (take 2 boards), (letter 66, tt)) ↛ 1  -- find_counts_from_0
+      ∷ (lent (take 3 boards), (letter 65, tt)) ↛ 3  -- find_last
+      ∷ (lent (take 2 boards), (letter 67, tt)) ↛ 4  -- lookup_all_256
+      ∷ (lent (take 3 boards), (letter 67, tt)) ↛ 4  -- lookup_one_more
+      ∷ (lent (take 2 boards), (letter 98, tt)) ↛ 2  -- find_in_either_case
       ∷ [])
   unfolding places_open bytes_open
-  lookup_all_not =
-      by_equation (λ a. places_with spelt_at (take a.1.0 a.0.now)) (λ p. list (of_places p)) (λ a z e s. s)
-      (omega arith, (omega arith, (omega arith, (omega arith, (omega arith, (omega arith, (omega arith, (omega arith, tt)))))))) tt
+  find_not =
+      by_equation (λ a. spelt_at a.1.0 a.0.now) (λ n. n) (λ a z e s. s)
+      (tt, (tt, (tt, (tt, (tt, (tt, tt)))))) tt
+
+  pub find_all_not : RuledOut (find-all.Pre (κ, (κ, tt))) (ends (find-all.Post (κ, (κ, tt)))) (
+      among (take 2 boards) ↛ among_left (take 2 boards) (places 0 (0 ∷ 1 ∷ []) (1 ∷ 2 ∷ []))  -- find_all_exchanged
+      ∷ among (take 2 boards) ↛ among_left (take 2 boards) (places 0 (0 ∷ 2 ∷ []) (0 ∷ 1 ∷ []))  -- find_all_from_second
+      ∷ among (take 2 boards) ↛ among_left (take 2 boards) (places 0 (0 ∷ 1 ∷ []) (0 ∷ 1 ∷ []))  -- find_all_own_of_feeder
+      ∷ among (take 2 boards) ↛ among_left (take 2 boards) (places 1 (1 ∷ 2 ∷ []) (0 ∷ 1 ∷ []))  -- find_all_pads_with_1
+      ∷ among (take 2 boards) ↛ among_left (take 2 boards) (places_with spelt_at boards)  -- lookup_all_all_256
+      ∷ among (take 3 boards) ↛ among_left (take 3 boards) (places 0 (0 ∷ 1 ∷ 2 ∷ []) (1 ∷ 2 ∷ 1 ∷ []))  -- lookup_all_exchanged
+      ∷ among (take 4 typed) ↛ among_left (take 4 typed) (places 0 (1 ∷ 2 ∷ 3 ∷ 2 ∷ []) (0 ∷ 0 ∷ 2 ∷ 1 ∷ []))  -- own_in_either_case
+      ∷ among (take 4 typed) ↛ among_left (take 4 typed) (places 0 (1 ∷ 2 ∷ 3 ∷ 4 ∷ []) (0 ∷ 1 ∷ 2 ∷ 1 ∷ []))  -- feeder_in_either_case
+      ∷ [])
+  unfolding places_open bytes_open
+  find_all_not =
+      by (λ z. list (of_places z.1.1.0.now)) (λ a. list (of_places (places_with spelt_at a.0.now))) (λ a z s. ap (λ p. list (of_places p)) s)
+      ((lit≤ tt, refl), ((lit≤ tt, refl), ((lit≤ tt, refl), ((lit≤ tt, refl), ((lit≤ tt, refl), ((lit≤ tt, refl), ((lit≤ tt, refl), ((lit≤ tt, refl), tt)))))))) tt
 
   pub places_in_not : RuledOut (places-in.Pre (κ, tt)) (ever (places-in.Post (κ, tt))) (
       (lent net, (4, (letter 97, tt))) ↛ answers 0  -- asked_as_typed

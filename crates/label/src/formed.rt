@@ -9,6 +9,7 @@ use std::num::wrapping_add_u64;
 
 // Eight bytes at once, 0x80 saying yes in each: each is 0x20 to 0x7E, and none that is shown stands right behind a space.
 // The sums of a byte of 0x80 or above can reach the next byte: it is wrong itself, so what they say of others is nobody's.
+// Stays by words: byte by byte it was almost half of what judging a record took (docs/DECISIONS.md, 88).
 fn letters_then_spaces(w: u64) -> bool
     ensures { result ≡ visible_then_blank (little 8 w) }
 {
@@ -26,7 +27,7 @@ pub fn formed(l: [u8; 12]) -> bool
 {
     let first = l[0];
     let w = first_eight(l);
-    let v = last_four(l);
+    let v = last_four(l) as u64;
     let u = w / 0x1_0000_0000 + v * 0x1_0000_0000;
     (first != SPACE) & letters_then_spaces(w) & letters_then_spaces(u)
 }

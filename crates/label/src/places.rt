@@ -1,76 +1,55 @@
 // Of every board of a network, where its own label and its feeder's first stand; and where a label that is asked for does.
-ghost use Rattle.std.specs.Prelude.{◌≡◌, ◌+◌, ◌*◌, ◌≤◌, length, take};
+ghost use Rattle.std.specs.Prelude.{◌≡◌, ◌+◌, ◌*◌, ◌≤◌, length, replicate};
 ghost use Rattle.paper.specs.File.{head_of, boards_of};
-ghost use Rattle.label.specs.Places.{spelt_at, places_with, found_in};
+ghost use Rattle.label.specs.Places.{no_place, spelt_at, places_with, found_in};
 
 use crate::case::{board_in_capitals, in_capitals};
-use crate::search::{find, lookup};
+use crate::search::find;
 use file::bytes::board_of;
 use file::table::empty_board;
 use paper::Board;
 
-// For each board of a list of at most 256: the first place of its own label, and that of its feeder's.
+// Of a board: the first place of its own label, and that of its feeder's (0: none).
 #[derive(Clone, Copy)]
-pub struct Places {
-    pub own: [u16; 256],
-    pub fed: [u16; 256],
+pub struct Place {
+    pub own: u16,
+    pub fed: u16,
 }
 
-// What a search among a network's records gives: every record's own and feeder's place, and that of the label that is asked for (0: none).
+// What a search among a network's records gives: every record's own and feeder's place, and that of the label that is asked for (0: none). Tables have 256 places whatever N is: nothing is allocated here or above.
 #[derive(Clone, Copy)]
 pub struct Found {
-    pub places: Places,
+    pub places: [Place; 256],
     pub asked: u16,
 }
 
-// Of every board of the slice, among all of them: the slice is entered once.
-pub(crate) fn find_all(boards: &[Board]) -> Places
-    requires { length boards.now ≤ 256 }
-    ensures { result ≡ places_with spelt_at boards.now }
+// Of every board of the slice, among all of them, into a table that says no place: the slice is entered once. The table is lent, since one that is handed back is copied once more.
+pub(crate) fn find_all(boards: &[Board], places: &mut [Place; 256])
+    requires { (length boards.now ≤ 256) × (places.old ≡ replicate 256 no_place) }
+    ensures { places.new ≡ places_with spelt_at boards.now }
 {
-    let mut places = Places {
-        own: [0u16; 256],
-        fed: [0u16; 256],
-    };
-    let mut j = 0;
-    while j < boards.len() {
-        let b = boards[j];
-        places.own[j] = find(boards, b.label) as u16;
-        places.fed[j] = find(boards, b.feeder) as u16;
-        j += 1;
+    for (j, b) in boards.iter().enumerate() {
+        let own = find(boards, b.label) as u16;
+        let fed = find(boards, b.feeder) as u16;
+        places[j] = Place { own, fed };
     }
-    places
 }
 
-// Of the first n boards of a table.
-pub(crate) fn lookup_all(table: &[Board; 256], n: usize) -> Places
-    requires { n ≤ 256 }
-    ensures { result ≡ places_with spelt_at (take n table.now) }
-{
-    find_all(&table[..n])
-}
-
+// n and what is asked of it stay beside net: a type that holds them would ask more of those who call this.
 // The boards stay here: decoded in capitals, and searched. One function fills the table and lends it: a table that is passed is copied.
 pub fn places_in(net: &[u8], n: usize, label: [u8; 12]) -> Found
     requires { (n ≡ (head_of net.now).boards) × (n ≤ 256) × (length net.now ≡ 8 + 44 * n) }
     ensures { result ≡ found_in (boards_of net.now) label }
 {
-    let empty = empty_board();
-    let mut boards = [empty; 256];
-    let mut i: usize = 0;
-    while i < n {
+    let mut boards = [empty_board(); 256];
+    for i in 0..n {
         let a = 8 + 44 * i;
         let e = a + 44;
-        let b = board_of(&net[a..e]);
-        let up = board_in_capitals(b);
-        boards[i] = up;
-        i += 1;
+        boards[i] = board_in_capitals(board_of(&net[a..e]));
     }
-    let wanted = in_capitals(label);
-    let places = lookup_all(&boards, n);
-    let k = lookup(&boards, n, wanted);
-    Found {
-        places,
-        asked: k as u16,
-    }
+    let searched = &boards[..n];
+    let asked = find(searched, in_capitals(label)) as u16;
+    let mut places = [Place { own: 0, fed: 0 }; 256];
+    find_all(searched, &mut places);
+    Found { places, asked }
 }

@@ -1,10 +1,9 @@
 -- Lines, piece by piece as they are written. Assumes nothing.
 use mathlib.Core.Path.{◌≡◌, refl, ◌∙◌}
 use mathlib.Core.List.{List, [], ◌∷◌, ◌++◌, append_assoc, append-nil}
-use Prim.Native.Nat.{ℕ, ◌+◌}
+use Prim.Native.Nat.{ℕ}
 use lib.IntN.{ℤ, pos}
 use lib.ListN.{take, drop}
-use lib.Seq.{drop-drop}
 use Rattle.decimal.specs.Decimal.{decimal, signed, row}
 use Rattle.paper.specs.Bytes.{text}
 use Rattle.lines.specs.Name.{unspaced}
@@ -31,7 +30,7 @@ pub phase_pieces : (whose what : List ℕ) (letter : ℕ) (zs : List ℤ) → li
 unfolding line
 phase_pieces whose what letter zs = append_assoc (whose ++ what) (letter ∷ []) (row zs) ∙ append_assoc whose what (letter ∷ row zs)
 
-pub three_pieces : (what : List ℕ) (zs : List ℤ) (from : ℕ)
-    → three_lines what (fours (drop from zs)) ≡ line (what ++ (0x61 ∷ [])) (take 4 (drop from zs)) ++ (line (what ++ (0x62 ∷ [])) (take 4 (drop (from + 4) zs)) ++ line (what ++ (0x63 ∷ [])) (take 4 (drop (from + 8) zs)))
+pub three_pieces : (what : List ℕ) (zs : List ℤ)
+    → three_lines what (fours zs) ≡ line (what ++ (0x61 ∷ [])) (take 4 zs) ++ (line (what ++ (0x62 ∷ [])) (take 4 (drop 4 zs)) ++ line (what ++ (0x63 ∷ [])) (take 4 (drop 8 zs)))
 unfolding three_lines phase_lines fours
-three_pieces what zs from = rw (drop-drop 4 from zs, drop-drop 8 from zs, append-nil (line (what ++ (0x63 ∷ [])) (take 4 (drop (from + 8) zs))))
+three_pieces what zs = rw (append-nil (line (what ++ (0x63 ∷ [])) (take 4 (drop 8 zs))))

@@ -1,14 +1,13 @@
 -- A label without its closing spaces: how much of it that is. Assumes nothing.
-use mathlib.Core.Bool.{Bool, true, false, cond, ◌&&◌, and-false}
+use mathlib.Core.Bool.{Bool, true, false, cond, and-false}
 use mathlib.Core.Path.{◌≡◌, refl, sym, ap, ◌∙◌}
 use mathlib.Core.List.{List, [], ◌∷◌}
-use Prim.Native.Nat.{ℕ, zero, suc, ◌-◌, ◌≤◌, ◌<◌}
+use Prim.Native.Nat.{ℕ, zero, suc, ◌+◌, ◌≤◌, ◌<◌}
 use native.Mathlib.Omega.{arith}
 use native.Mathlib.Nat.{le_of_suc-le-suc}
 use lib.Dec.{eqb}
-use lib.ListN.{length, get_or, take, drop}
+use lib.ListN.{length, get_or, take}
 use borrow.Author.Tests.{eq-eqb, ne_eqb}
-use Rattle.label.proofs.FromTheBack.{blank_from}
 use Rattle.paper.specs.Label.{blank}
 use Rattle.lines.specs.Name.{unspaced}
 
@@ -40,8 +39,13 @@ unfolding unspaced
 none_left [] h = refl
 none_left (x ∷ xs) h = rw h
 
-pub no_letters : (l : List ℕ) {n : ℕ} → n ≤ 0 → true ≡ blank (drop n l) → n ≡ length (unspaced l)
-no_letters l {n} z h = let e : n ≡ 0 = omega arith in e ∙ sym (ap length (none_left l (sym (rw e at h))))
+all_spaces : (l : List ℕ) → ((k : ℕ) → k < length l → get_or l k 0 ≡ 0x20) → blank l ≡ true
+unfolding blank
+all_spaces [] s = refl
+all_spaces (x ∷ xs) s = rw (eq-eqb x 0x20 (s 0 (omega arith))) (all_spaces xs (λ k h. s (suc k) (omega arith)))
+
+pub no_letters : (l : List ℕ) → ((k : ℕ) → k < length l → get_or l k 0 ≡ 0x20) → 0 ≡ length (unspaced l)
+no_letters l s = sym (ap length (none_left l (all_spaces l s)))
 
 -- a label with a letter is not blank
 not_blank : (l : List ℕ) (m : ℕ) → m < length l → (get_or l m 0 ≡ 0x20 → ⊥) → blank l ≡ false
@@ -55,16 +59,13 @@ unfolding unspaced
 kept_letter x xs h = rw h
 
 -- a letter with spaces alone behind it is the last
-last_letter : (l : List ℕ) (m : ℕ) → m < length l → (get_or l m 0 ≡ 0x20 → ⊥) → blank (drop (suc m) l) ≡ true → length (unspaced l) ≡ suc m
-last_letter [] m h k b = absurd (omega arith)
-last_letter (x ∷ xs) zero h k b = kept_letter x xs (not_blank (x ∷ xs) 0 h k) ∙ ap (λ (l : List ℕ). suc (length l)) (none_left xs b)
-last_letter (x ∷ xs) (suc m) h k b = kept_letter x xs (not_blank (x ∷ xs) (suc m) h k) ∙ ap suc (last_letter xs m (le_of_suc-le-suc h) k b)
+last_letter : (l : List ℕ) (m : ℕ) → m < length l → (get_or l m 0 ≡ 0x20 → ⊥) → ((k : ℕ) → m < k → k < length l → get_or l k 0 ≡ 0x20) → length (unspaced l) ≡ suc m
+last_letter [] m h k s = absurd (omega arith)
+last_letter (x ∷ xs) zero h k s =
+    kept_letter x xs (not_blank (x ∷ xs) 0 h k) ∙ ap (λ (l : List ℕ). suc (length l)) (none_left xs (all_spaces xs (λ j i. s (suc j) (omega arith) (omega arith))))
+last_letter (x ∷ xs) (suc m) h k s =
+    kept_letter x xs (not_blank (x ∷ xs) (suc m) h k) ∙ ap suc (last_letter xs m (le_of_suc-le-suc h) k (λ j a i. s (suc j) (omega arith) (omega arith)))
 
-pub letters_to : (l : List ℕ) {n : ℕ} → 0 < n → n ≤ length l → (get_or l (n - 1) 0 ≡ 0x20 → ⊥) → true ≡ blank (drop n l) → n ≡ length (unspaced l)
-letters_to l {n} p h k b =
-    let e : suc (n - 1) ≡ n = omega arith in
-    sym (last_letter l (n - 1) (omega arith) k (rw e (sym b)) ∙ e)
-
--- one more space
-pub space_before : (l : List ℕ) {n : ℕ} → length l ≡ 12 → 0 < n → n ≤ 12 → get_or l (n - 1) 0 ≡ 0x20 → true ≡ blank (drop n l) → true ≡ blank (drop (n - 1) l)
-space_before l {n} len p h s b = sym (ap (λ (t : Bool). t && true) (eq-eqb (get_or l (n - 1) 0) 0x20 s)) ∙ blank_from l len n p h b
+pub letters_to : (l : List ℕ) (last : ℕ) → last < length l → (get_or l last 0 ≡ 0x20 → ⊥) → ((k : ℕ) → last + 1 ≤ k → k < length l → get_or l k 0 ≡ 0x20)
+    → last + 1 ≡ length (unspaced l)
+letters_to l last h k s = omega (arith, last_letter l last h k (λ j a i. s j (omega arith) i))

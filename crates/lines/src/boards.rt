@@ -1,23 +1,24 @@
 // The lines of the boards, written into a lent buffer.
 ghost use Rattle.std.specs.Prelude.{◌≡◌, ◌+◌, ◌*◌, ◌≤◌, length, take, drop};
-ghost use Rattle.decimal.specs.Wrote.{Room, Wrote};
+ghost use Rattle.decimal.specs.Writing.{Fits, Writes};
 ghost use Rattle.paper.specs.File.{head_of, board_of, boards_of};
 ghost use Rattle.lines.specs.Boards.{board_lying, boards_lying};
 
 use crate::name::letters;
 use crate::put_phases;
+use decimal::Pen;
 use file::bytes::board_of;
 
 // A board's numbers as they lie: three phases of voltages, three of currents.
-fn put_board(out: &mut [u8], at: usize, l: [u8; 12], zs: &[i64], from: usize) -> usize
-    requires from_in_bounds { from + 24 ≤ length zs.now }
-    requires room { Room at (board_lying l (drop from zs.now)) out.old }
-    ensures { Wrote at (board_lying l (drop from zs.now)) out.old out.new result }
+fn put_board(pen: &mut Pen<'_>, l: [u8; 12], zs: &[i64])
+    requires in_bounds { 24 ≤ length zs.now }
+    requires room { Fits (board_lying l zs.now) pen.old }
+    ensures { Writes (board_lying l zs.now) pen.old pen.new }
 {
     let n = letters(l);
     let whose = &l[..n];
-    let a = put_phases(out, at, whose, b" V ", zs, from);
-    put_phases(out, a, whose, b" I ", zs, from + 12)
+    put_phases(pen, whose, b" V ", zs);
+    put_phases(pen, whose, b" I ", &zs[12..]);
 }
 
 // The label in a board's record, boards counted from 0.
@@ -31,20 +32,16 @@ fn label_of(net: &[u8], i: usize) -> [u8; 12]
     board.label
 }
 
-// The numbers stand behind D and the fault currents.
-pub fn put_boards(out: &mut [u8], at: usize, net: &[u8], n: usize, zs: &[i64]) -> usize
+// The numbers stand behind D and the fault currents. n stands beside net with its clauses, as in `records::judge`.
+pub fn put_boards(pen: &mut Pen<'_>, net: &[u8], n: usize, zs: &[i64])
     requires n_value { n ≡ (head_of net.now).boards }
     requires net_len { length net.now ≡ 8 + 44 * n }
     requires n_in_bounds { 13 + 24 * n ≤ length zs.now }
-    requires room { Room at (boards_lying (boards_of net.now) (drop 13 zs.now)) out.old }
-    ensures { Wrote at (boards_lying (boards_of net.now) (drop 13 zs.now)) out.old out.new result }
+    requires room { Fits (boards_lying (boards_of net.now) (drop 13 zs.now)) pen.old }
+    ensures { Writes (boards_lying (boards_of net.now) (drop 13 zs.now)) pen.old pen.new }
 {
-    let mut end = at;
-    let mut i: usize = 0;
-    while i < n {
+    for i in 0..n {
         let l = label_of(net, i);
-        end = put_board(out, end, l, zs, 13 + 24 * i);
-        i += 1;
+        put_board(pen, l, &zs[13 + 24 * i..]);
     }
-    end
 }

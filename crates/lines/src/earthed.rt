@@ -1,32 +1,31 @@
 // The line about an earth return, written into a lent buffer.
 ghost use Rattle.std.specs.Prelude.{◌∷◌, [], pos};
-ghost use Rattle.decimal.specs.Wrote.{Room, Wrote};
+ghost use Rattle.decimal.specs.Writing.{Fits, Writes};
 ghost use Rattle.paper.specs.Return.{said};
 ghost use Rattle.lines.specs.Lines.{line};
 ghost use Rattle.lines.specs.Earth.{earth_text};
 
 use crate::put_refusal;
-use decimal::row::put_field;
-use decimal::{put_byte, put_bytes};
-use paper::EarthReturn;
+use decimal::Pen;
+use paper::{EarthReturn, Refusal};
 
 // Words, and the number of a record.
-fn put_record(out: &mut [u8], at: usize, words: &[u8], place: u16) -> usize
-    requires { Room at (line words.now (pos place ∷ [])) out.old }
-    ensures { Wrote at (line words.now (pos place ∷ [])) out.old out.new result }
+fn put_record(pen: &mut Pen<'_>, words: &[u8], place: u16)
+    requires { Fits (line words.now (pos place ∷ [])) pen.old }
+    ensures { Writes (line words.now (pos place ∷ [])) pen.old pen.new }
 {
-    let a = put_bytes(out, at, words);
-    let b = put_field(out, a, place as u64);
-    put_byte(out, b, b'\n')
+    pen.bytes(words);
+    pen.field(place as u64);
+    pen.byte(b'\n');
 }
 
-pub fn put_earth(out: &mut [u8], at: usize, given: EarthReturn) -> usize
-    requires { Room at (earth_text (said given)) out.old }
-    ensures { Wrote at (earth_text (said given)) out.old out.new result }
+pub fn put_earth(pen: &mut Pen<'_>, given: Result<EarthReturn, Refusal>)
+    requires { Fits (earth_text (said given)) pen.old }
+    ensures { Writes (earth_text (said given)) pen.old pen.new }
 {
     match given {
-        EarthReturn::From(r) => put_record(out, at, b"earth return from record", r),
-        EarthReturn::Stopped(r) => put_record(out, at, b"none, stopped at record", r),
-        EarthReturn::Refused(why) => put_refusal(out, at, why.number, why.place),
+        Ok(EarthReturn::From(r)) => put_record(pen, b"earth return from record", r),
+        Ok(EarthReturn::Stopped(r)) => put_record(pen, b"none, stopped at record", r),
+        Err(why) => put_refusal(pen, why.number, why.place),
     }
 }

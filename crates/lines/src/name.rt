@@ -1,28 +1,24 @@
 // Labels, without their closing spaces.
 ghost use Rattle.std.specs.Prelude.{◌≡◌, length};
 ghost use Rattle.lines.specs.Name.{unspaced};
-ghost use Rattle.decimal.specs.Wrote.{Room, Wrote};
+ghost use Rattle.decimal.specs.Writing.{Fits, Writes};
 
-use decimal::put_bytes;
+use decimal::Pen;
 
 // How many bytes are left of a label. From the back: the first that is no space is the last.
 pub(crate) fn letters(l: [u8; 12]) -> usize
     ensures { result ≡ length (unspaced l) }
 {
-    let mut n: usize = 12;
-    while 0 < n {
-        if l[n - 1] != b' ' {
-            return n;
-        }
-        n -= 1;
+    match l.iter().rposition(|b| *b != b' ') {
+        Some(last) => last + 1,
+        None => 0,
     }
-    n
 }
 
-pub(crate) fn put_label(out: &mut [u8], at: usize, l: [u8; 12]) -> usize
-    requires { Room at (unspaced l) out.old }
-    ensures { Wrote at (unspaced l) out.old out.new result }
+pub(crate) fn put_label(pen: &mut Pen<'_>, l: [u8; 12])
+    requires { Fits (unspaced l) pen.old }
+    ensures { Writes (unspaced l) pen.old pen.new }
 {
     let n = letters(l);
-    put_bytes(out, at, &l[..n])
+    pen.bytes(&l[..n]);
 }

@@ -1,4 +1,4 @@
-pub mod Head
-pub mod Whole
+mod Head
+mod Whole
 pub mod Kept
 mod RuledOut

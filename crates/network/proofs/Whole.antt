@@ -2,69 +2,49 @@
 use mathlib.Core.List.{List, []}
 use mathlib.Core.Option.{Option, none, some}
 use mathlib.Core.Path.{◌≡◌, sym, ◌∙◌, ap}
-use Prim.Native.Nat.{ℕ, ◌+◌, ◌*◌, ◌-◌, ◌<◌}
-use native.Mathlib.Omega.{arith}
-use lib.ListN.{length}
+use Prim.Native.Nat.{ℕ}
+use Rattle.std.specs.Prelude.{Result, Ok, Err}
 use Rattle.paper.specs.declared.Head.{Head}
 use Rattle.paper.specs.declared.Refusal.{Refusal}
-use Rattle.paper.specs.declared.Lent.TheVariants.{NetworkBytes}
-use Rattle.paper.specs.Bytes.{part}
 use Rattle.paper.specs.Rows.{first}
 use Rattle.paper.specs.Label.{Label}
-use Rattle.paper.specs.File.{head_of, records_of, boards_of}
-use Rattle.paper.specs.Chain.{place_of}
+use Rattle.paper.specs.File.{head_of, records_of}
 use Rattle.paper.specs.Refusal.{head_rows, records_rows, records_refusal, network_rows, network_refusal}
+use Rattle.paper.specs.Rule.{or_refused}
+use Rattle.paper.proofs.Rules.{accepted_by, refused_by}
 use Rattle.records.specs.declared.Judged.{Judged}
-use Rattle.network.specs.declared.Network.{Network}
-use Rattle.paper.specs.declared.Outcome.TheVariants.{Accepted}
-use Rattle.network.specs.Network.{head_number, refused_network, judged, network_of}
+use Rattle.network.specs.Network.{accepted_network, network_of}
 use Rattle.follows.proofs.Rows.{some_none, behind, ahead}
-use Rattle.records.specs.Judging.{judged_by, judgement}
-use Rattle.records.proofs.Said.{all_kept, first_broken}
-use Rattle.network.proofs.Head.{too_short, head_broken, head_kept}
+use Rattle.records.specs.Judging.{judgement}
+use Rattle.records.proofs.Said.{asked, all_kept, first_broken}
 
 module _ (s : List ℕ) (l : Label) where
-  by_refusal : {r : Refusal} → network_refusal s ≡ some r → refused_network r ≡ network_of s l
-  unfolding network_of judged
-  by_refusal e = ap (λ (o : Option Refusal). judged o s l) (sym e)
+  -- refused: what the table then holds is nobody's
+  refused_network : {X : Type 0} {w : Refusal} → network_refusal s ≡ some w → (Err w ≡ network_of s l) × (network_refusal s ≡ none → X)
+  unfolding network_of or_refused
+  refused_network e = (ap (λ (o : Option Refusal). or_refused o (accepted_network s l)) (sym e), λ k. absurd (some_none (sym e ∙ k)))
 
-  by_head : {r : Refusal} → first (head_rows s) ≡ some r → network_refusal s ≡ some r
-  unfolding network_rows
-  by_head e = ahead (head_rows s) (records_rows [] (records_of s)) e
+  -- what was read of the head
+  module _ {d : Result Head Refusal} (d-is : d ≡ or_refused (first (head_rows s)) (head_of s)) where
+    pub head_right : {h : Head} → d ≡ Ok h → (first (head_rows s) ≡ none) × (head_of s ≡ h)
+    head_right e = accepted_by (first (head_rows s)) (head_of s) (sym d-is ∙ e)
 
-  by_records : head_number s ≡ 0 → network_refusal s ≡ records_refusal [] (records_of s)
-  unfolding network_rows
-  by_records e = behind (head_rows s) (records_rows [] (records_of s)) (head_kept s e)
+    pub read_head : {X : Type 0} {w : Refusal} → d ≡ Err w → (Err w ≡ network_of s l) × (network_refusal s ≡ none → X)
+    unfolding network_rows
+    read_head e = refused_network (ahead (head_rows s) (records_rows [] (records_of s)) (refused_by (first (head_rows s)) (head_of s) (sym d-is ∙ e)))
 
-  -- refused: what the rows then hold is nobody's
-  refused_by_lem : {X : Type 0} {n : Network} {r : Refusal} → network_refusal s ≡ some r → n ≡ refused_network r → (n ≡ network_of s l) × (network_refusal s ≡ none → X)
-  refused_by_lem e f = (f ∙ by_refusal e, λ k. absurd (some_none (sym e ∙ k)))
+    module _ {h : Head} {j : Judged} (kept : d ≡ Ok h) (j-is : j ≡ judgement s l) where
+      by_records : network_refusal s ≡ records_refusal [] (records_of s)
+      unfolding network_rows
+      by_records = behind (head_rows s) (records_rows [] (records_of s)) (head_right kept).0
 
-  -- ---- the four returns, from the facts in the shape in which the branches have them
-  module _ {X : Type 0} {b : ℕ} (b-is : b ≡ head_number s) where
-    pub read_short : {n : Network} → b ≡ 1 → n ≡ refused_network (record { part = part NetworkBytes 0 (length s); place = 0; number = 1 }) → (n ≡ network_of s l) × (network_refusal s ≡ none → X)
-    read_short h e = refused_by_lem (by_head (too_short s (sym b-is ∙ h))) e
+      pub read_refused : {X : Type 0} {w : Refusal} → j.outcome ≡ Err w → (Err w ≡ network_of s l) × (network_refusal s ≡ none → X)
+      read_refused e = refused_network (by_records ∙ first_broken s l j-is e)
 
-    pub read_head : {n : Network} → (b ≡ 1 → ⊥) → (b ≡ 0 → ⊥) → n ≡ refused_network (record { part = part NetworkBytes 0 8; place = 0; number = b }) → (n ≡ network_of s l) × (network_refusal s ≡ none → X)
-    read_head f g e = refused_by_lem (by_head (head_broken s b more (sym b-is))) e
-      where
-        more : 1 < b
-        more = omega arith
-
-    module _ {j : Judged} (h : b ≡ 0) (j-is : j ≡ judgement s l) where
-      pub read_refused : {n : Network} → (j.number ≡ 0 → ⊥) → n ≡ refused_network (record { part = part NetworkBytes (8 + 44 * (j.place - 1)) 44; place = j.place; number = j.number })
-          → (n ≡ network_of s l) × (network_refusal s ≡ none → X)
-      read_refused f e = refused_by_lem (by_records (sym b-is ∙ h) ∙ first_broken s l j-is f) e
-
-      pub read_accepted : {d : Head} → j.number ≡ 0 → d ≡ head_of s → (records_refusal [] (records_of s) ≡ none → X) → ◌≡◌ {A = Network} (record { outcome = Accepted; head = d; k = j.asked }) (network_of s l) × (network_refusal s ≡ none → X)
-      unfolding network_of judged judgement judged_by
-      read_accepted z de x = (
-        (λ i. record { outcome = Accepted; head = de i; k = asked i }) ∙ ap (λ (o : Option Refusal). judged o s l) (sym (by_records (sym b-is ∙ h) ∙ kept)),
-        λ e. x kept,
+      pub read_accepted : {X : Type 0} {u : Unit {0}} → j.outcome ≡ Ok u → (records_refusal [] (records_of s) ≡ none → X)
+          → (Ok (record { head = h; k = j.asked }) ≡ network_of s l) × (network_refusal s ≡ none → X)
+      unfolding network_of or_refused
+      read_accepted e x = (
+        (λ i. Ok (record { head = sym (head_right kept).1 i; k = asked s l j-is i })) ∙ ap (λ (o : Option Refusal). or_refused o (accepted_network s l)) (sym (by_records ∙ all_kept s l j-is e)),
+        λ n. x (all_kept s l j-is e),
       )
-        where
-          kept : records_refusal [] (records_of s) ≡ none
-          kept = all_kept s l j-is z
-
-          asked : j.asked ≡ place_of l (boards_of s)
-          asked = ap (λ (w : Judged). w.asked) (j-is ∙ ap (λ (o : Option Refusal). judged_by o (place_of l (boards_of s))) kept)

@@ -8,5 +8,8 @@ pub mod CaseFigures
 pub mod WriteFigures
 pub mod ReturnFigures
 pub mod ForgottenFigures
+-- rules and their numbers
+pub mod Rules
 -- what tables of wrong answers say of impedances and sequences
 pub mod Told
+mod RuledOut

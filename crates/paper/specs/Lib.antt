@@ -12,6 +12,7 @@ pub mod Fault
 pub mod Phase
 pub mod Amps
 -- 'What the caller gets'
+pub mod Rule
 pub mod Rows
 pub mod Refusal
 pub mod Answer

@@ -1,11 +1,12 @@
 -- 02, R-4: 'Why is there no earth return?': what the answer's cases say, the refusals, and the answer. Assumes nothing.
 use Rattle.std.specs.Prelude.{Bool, true, false, not, ◌||◌, List, [], ◌∷◌, ◌++◌, ℕ, eqb, length}
+use Rattle.std.specs.Prelude.{Result, Ok, Err}
 use Rattle.std.proofs.Math.Option.{Option, none, some}
 use Rattle.paper.specs.declared.Part.{Part}
 use Rattle.paper.specs.declared.Lent.TheVariants.{LabelBytes}
 use Rattle.paper.specs.declared.Refusal.{Refusal}
 use Rattle.paper.specs.declared.EarthReturn.{EarthReturn}
-use Rattle.paper.specs.declared.EarthReturn.TheVariants.{From, Stopped, Refused}
+use Rattle.paper.specs.declared.EarthReturn.TheVariants.{From, Stopped}
 use Rattle.paper.specs.Rows.{Row, row, first}
 use Rattle.paper.specs.Label.{Label}
 use Rattle.paper.specs.File.{label_size, boards_of}
@@ -30,11 +31,11 @@ none_stopped_at r = record { number = 0; earthed = false; place = r; shown = non
 abbrev pub refused_by : Refusal → Said
 refused_by w = record { number = w.number; earthed = false; place = w.place; shown = some w.part }
 
--- what each case of the answer says: promises are stated by this
-unfoldable pub said : EarthReturn → Said
-said (From r) = earth_return_from r
-said (Stopped r) = none_stopped_at r
-said (Refused w) = refused_by w
+-- what each case of the answer says, and a refusal: promises are stated by this
+unfoldable pub said : Result EarthReturn Refusal → Said
+said (Ok (From r)) = earth_return_from r
+said (Ok (Stopped r)) = none_stopped_at r
+said (Err w) = refused_by w
 
 -- ---- "Refusals: 1 to 11 as before, then 14, also for a label not of twelve bytes." All of the network's own are meant. The part is the bytes tested: the label's, however many
 unfoldable pub label_rows : Boards → Label → List Row

@@ -1,3 +1,2 @@
-mod Operands
 mod RuledOut
 mod Table

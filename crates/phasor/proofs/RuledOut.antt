@@ -6,14 +6,10 @@ use native.Mathlib.Omega.{arith}
 use lib.IntN.{pos}
 use Rattle.lemmas.proofs.RuledOut.{◌↛◌, RuledOut, ever, by_equation, whole}
 use Rattle.turn.specs.declared.Num.{Num}
-use Rattle.turn.specs.Number.{◌+N◌, neg_n, ◌-N◌, ◌·N◌, ◌*N◌, times_t, power_n, turn_n, conj_n, square_n}
+use Rattle.turn.specs.Number.{◌+N◌, ◌·N◌, ◌*N◌, times_t, power_n, turn_n, conj_n, square_n}
 use Rattle.turn.proofs.Told.{minus, num, told, within}
-use Rattle.phasor.specs.Bounds.{Addable, Squarable, Factors}
-use Rattle.phasor.proofs.sum.add.Reads as add
-use Rattle.phasor.proofs.sum.neg.Reads as neg
-use Rattle.phasor.proofs.sum.sub.Reads as sub
+use Rattle.turn.specs.Bounds.{Addable, Squarable, Factors}
 use Rattle.phasor.proofs.sum.conj.Reads as conj
-use Rattle.phasor.proofs.product.mul.Reads as mul
 use Rattle.phasor.proofs.product.square.Reads as square
 use Rattle.phasor.proofs.turns.row.Reads as row
 use Rattle.phasor.proofs.turns.turn.Reads as turn
@@ -41,41 +37,12 @@ z_squares : Squarable z
 z_squares = record { no_t = refl; no_t² = refl; within = within (2 ^ 30) z tt }
 
 -- ---- the contracts
-pub add_not : RuledOut (add.Pre tt) (ever (add.Post tt)) (
-    (n, (m, tt)) ↛ num (pos 2) (pos 8) (pos 10) (pos 12)  -- add_first_twice
-    ∷ (n, (m, tt)) ↛ num (pos 6) (pos 8) (pos 10) (pos 11)  -- add_other_coordinate
-    ∷ [])
-unfolding ◌+N◌
-add_not = by_equation (λ a. a.0 +N a.1.0) told (λ a r e s. s) ((n_small, m_small), ((n_small, m_small), tt)) tt
-
-pub neg_not : RuledOut (neg.Pre tt) (ever (neg.Post tt)) (
-    (n, tt) ↛ num (minus 1) (minus 3) (minus 3) (minus 4)  -- neg_other_coordinate
-    ∷ (n, tt) ↛ n  -- neg_itself
-    ∷ [])
-unfolding neg_n
-neg_not = by_equation (λ a. neg_n a.0) told (λ a r e s. s) (within (2 ^ 62) n tt, (within (2 ^ 62) n tt, tt)) tt
-
-pub sub_not : RuledOut (sub.Pre tt) (ever (sub.Post tt)) (
-    (n, (m, tt)) ↛ num (pos 4) (pos 4) (pos 4) (pos 4)  -- sub_exchanged
-    ∷ (n, (m, tt)) ↛ num (pos 0) (pos 0) (pos 0) (pos 0)  -- sub_itself
-    ∷ [])
-unfolding ◌+N◌ neg_n
-sub_not = by_equation (λ a. a.0 -N a.1.0) told (λ a r e s. s) ((n_small, m_small), ((n_small, m_small), tt)) tt
-
 pub conj_not : RuledOut (conj.Pre tt) (ever (conj.Post tt)) (
     (n, tt) ↛ num (pos 4) (pos 2) (minus 3) (minus 4)  -- conj_keeps_t3
     ∷ (n, tt) ↛ num (pos 4) (pos 4) (minus 3) (minus 6)  -- conj_other_coordinate
     ∷ [])
 unfolding conj_n ◌+N◌ ◌·N◌ power_n times_t
 conj_not = by_equation (λ a. conj_n a.0) told (λ a r e s. s) (n_small, (n_small, tt)) tt
-
-pub mul_not : RuledOut (mul.Pre tt) (ever (mul.Post tt)) (
-    (n, (m, tt)) ↛ num (minus 84) (minus 36) (pos 95) (pos 112)  -- mul_other_pair
-    ∷ (n, (m, tt)) ↛ num (pos 24) (minus 36) (pos 95) (pos 112)  -- mul_sign
-    ∷ (n, (m, tt)) ↛ num (minus 88) (minus 36) (pos 86) (pos 112)  -- mul_t5_for_t4
-    ∷ [])
-unfolding ◌*N◌ ◌+N◌ ◌·N◌ times_t
-mul_not = by_equation (λ a. a.0 *N a.1.0) told (λ a r e s. s) (n_m, (n_m, (n_m, tt))) tt
 
 pub square_not : RuledOut (square.Pre tt) (ever (square.Post tt)) (
     (z, tt) ↛ pos 21  -- square_mixed

@@ -5,7 +5,7 @@ use Rattle.lemmas.proofs.RuledOut.{ever}
 use Rattle.turn.specs.declared.Num.{Num}
 use Rattle.turn.specs.Number.{◌*N◌, times_t, power_n}
 use Rattle.turn.proofs.Powers.{times_t_lem, power_suc, again}
-use Rattle.phasor.proofs.product.mul.Reads as mul
+use Rattle.turn.proofs.arithmetic.NumMul.mul.Reads as mul
 use Rattle.phasor.proofs.turns.row.Reads as row
 use Rattle.phasor.proofs.turns.turn.Reads as turn
 

@@ -1,4 +1,4 @@
-// What is computed with numbers: sums, products, turns. What each means stands in `turn`.
+// What is computed with numbers and is no operator: conjugate, square, turns. What each means stands in `turn`.
 #![tactic(auto)]
 
 pub mod product;

@@ -1,7 +1,7 @@
 // The twelve turns t⁰ to t¹¹, in a table, and any number turned, which takes no product.
 ghost use Rattle.std.specs.Prelude.{◌≡◌, ◌%◌};
 ghost use Rattle.turn.specs.Number.{power_n, turn_n};
-ghost use Rattle.phasor.specs.Bounds.{Addable};
+ghost use Rattle.turn.specs.Bounds.{Addable};
 
 use turn::Num;
 
@@ -26,6 +26,7 @@ fn hour(n: usize) -> usize
     ensures { result ≡ n % 12 }
 {
     let mut m = n;
+    // no index is counted: what is left shrinks to a quarter and less than 16 each time
     while m > 15 {
         let q = m / 16;
         m = q + q + q + q + m % 16;
@@ -37,16 +38,11 @@ fn hour(n: usize) -> usize
 pub fn row(n: usize) -> Num
     ensures { result ≡ power_n n }
 {
-    let h = hour(n);
-    let r = TURNS[h];
-    Num {
-        x0: r[0],
-        x1: r[1],
-        x2: r[2],
-        x3: r[3],
-    }
+    let [x0, x1, x2, x3] = TURNS[hour(n)];
+    Num { x0, x1, x2, x3 }
 }
 
+// No plainer written out: each line of the match would be four.
 fn number(x0: i64, x1: i64, x2: i64, x3: i64) -> Num
     ensures { result ≡ record { x0 = x0; x1 = x1; x2 = x2; x3 = x3 } }
 {
@@ -58,10 +54,12 @@ pub fn turn(a: Num, n: usize) -> Num
     requires { Addable a }
     ensures { result ≡ turn_n n a }
 {
-    let a0 = a.x0;
-    let a1 = a.x1;
-    let a2 = a.x2;
-    let a3 = a.x3;
+    let Num {
+        x0: a0,
+        x1: a1,
+        x2: a2,
+        x3: a3,
+    } = a;
     let s = a0 + a2;
     let u = a1 + a3;
     let n0 = -a0;

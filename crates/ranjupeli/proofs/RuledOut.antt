@@ -4,8 +4,10 @@ use Prim.Native.Nat.{ℕ}
 use Rattle.lemmas.proofs.RuledOut.{◌↛◌, RuledOut, ever, by_equation, list}
 use Rattle.paper.specs.declared.Answer.{Answer}
 use Rattle.paper.specs.declared.Written.{Written}
+use Rattle.std.specs.Prelude.{Result, Ok, Err}
 use Rattle.paper.specs.declared.EarthReturn.{EarthReturn}
-use Rattle.paper.specs.declared.EarthReturn.TheVariants.{From, Stopped, Refused}
+use Rattle.paper.specs.declared.Refusal.{Refusal}
+use Rattle.paper.specs.declared.EarthReturn.TheVariants.{From, Stopped}
 use Rattle.paper.specs.declared.Lent.TheVariants.{NetworkBytes, FaultBytes, LabelBytes}
 use Rattle.paper.specs.Bytes.{part}
 use Rattle.paper.specs.Return.{said}
@@ -14,9 +16,9 @@ use Rattle.ranjupeli.specs.declared.Reply.{Reply}
 use Rattle.ranjupeli.specs.declared.WriteReply.{WriteReply}
 use Rattle.ranjupeli.specs.declared.EarthReply.{EarthReply}
 use Rattle.ranjupeli.specs.Reply.{owner_of, reply_of, write_reply_of, earth_reply, earth_reply_of}
-use Rattle.ranjupeli.proofs.laid_out.Reads as laid_out
-use Rattle.ranjupeli.proofs.laid_out_write.Reads as laid-out-write
-use Rattle.ranjupeli.proofs.laid_out_earth.Reads as laid-out-earth
+use Rattle.ranjupeli.proofs.ReplyFromAnswer.from.Reads as reply-from
+use Rattle.ranjupeli.proofs.WriteReplyFromWritten.from.Reads as write-reply-from
+use Rattle.ranjupeli.proofs.EarthReplyFromResultEarthReturnRefusal.from.Reads as earth-reply-from
 
 -- ---- of `solve`: a fault of 19 bytes, and 01's booth
 abbrev torn : Answer
@@ -28,13 +30,13 @@ found = record { amps = 3709; part = part NetworkBytes 52 44; place = 2; n = 3; 
 abbrev answer : ℕ → ℕ → ℕ → ℕ → ℕ → ℕ → ℕ → Reply
 answer amps start len place n number owner = record { amps = amps; start = start; len = len; place = place; n = n; number = number; owner = owner }
 
-pub laid_out_not : RuledOut (laid_out.Pre tt) (ever (laid_out.Post tt)) (
+pub from_answer_not : RuledOut (reply-from.Pre tt) (ever (reply-from.Post tt)) (
     (torn, tt) ↛ answer 0 0 19 0 0 12 0  -- fault_shown_in_the_network
     ∷ (torn, tt) ↛ answer 0 0 44 0 0 12 1  -- always_a_record
     ∷ (found, tt) ↛ answer 3709 52 44 2 2 0 0  -- place_for_n
     ∷ [])
 unfolding reply_of owner_of
-laid_out_not =
+from_answer_not =
     by_equation (λ a. reply_of a.0) (λ r. list (r.amps ∷ r.start ∷ r.len ∷ r.place ∷ r.n ∷ r.number ∷ r.owner ∷ [])) (λ a z e s. s) (tt, (tt, (tt, tt))) tt
 
 -- ---- of `write`: number, place and length
@@ -44,29 +46,29 @@ wrote number place len = record { part = no_part; len = len; place = place; numb
 abbrev reply : ℕ → ℕ → ℕ → WriteReply
 reply number place len = record { len = len; place = place; number = number }
 
-pub laid_out_write_not : RuledOut (laid-out-write.Pre tt) (ever (laid-out-write.Post tt)) (
+pub from_written_not : RuledOut (write-reply-from.Pre tt) (ever (write-reply-from.Post tt)) (
     (wrote 7 2 0, tt) ↛ reply 7 0 0  -- written_place_lost
     ∷ (wrote 0 0 52, tt) ↛ reply 0 0 0  -- written_length_lost
     ∷ (wrote 20 0 0, tt) ↛ reply 0 0 0  -- written_though_refused
     ∷ [])
 unfolding write_reply_of
-laid_out_write_not = by_equation (λ a. write_reply_of a.0) (λ r. list (r.number ∷ r.place ∷ r.len ∷ [])) (λ a z e s. s) (tt, (tt, (tt, tt))) tt
+from_written_not = by_equation (λ a. write_reply_of a.0) (λ r. list (r.number ∷ r.place ∷ r.len ∷ [])) (λ a z e s. s) (tt, (tt, (tt, tt))) tt
 
 -- ---- of `earth`: number, place, whether there is a return, and start, length and owner of what is shown
 abbrev earth : ℕ → ℕ → ℕ → ℕ → ℕ → ℕ → EarthReply
 earth number place earthed start len owner = record { start = start; len = len; place = place; number = number; owner = owner; earthed = earthed }
 
-abbrev unknown : EarthReturn
-unknown = Refused (record { part = part LabelBytes 0 11; place = 0; number = 14 })
+abbrev unknown : Result EarthReturn Refusal
+unknown = Err (record { part = part LabelBytes 0 11; place = 0; number = 14 })
 
-pub laid_out_earth_not : RuledOut (laid-out-earth.Pre tt) (ever (laid-out-earth.Post tt)) (
-    (From 3, tt) ↛ earth 0 3 0 0 0 0  -- return_lost
-    ∷ (Stopped 3, tt) ↛ earth 0 3 1 0 0 0  -- stopped_is_a_return
-    ∷ (Stopped 3, tt) ↛ earth 0 0 0 0 0 0  -- record_lost
+pub from_earth_not : RuledOut (earth-reply-from.Pre tt) (ever (earth-reply-from.Post tt)) (
+    (Ok (From 3), tt) ↛ earth 0 3 0 0 0 0  -- return_lost
+    ∷ (Ok (Stopped 3), tt) ↛ earth 0 3 1 0 0 0  -- stopped_is_a_return
+    ∷ (Ok (Stopped 3), tt) ↛ earth 0 0 0 0 0 0  -- record_lost
     ∷ (unknown, tt) ↛ earth 0 0 0 0 0 0  -- refused_is_stopped
     ∷ (unknown, tt) ↛ earth 14 0 0 0 11 1  -- label_shown_in_a_fault
     ∷ (unknown, tt) ↛ earth 14 0 0 0 12 2  -- label_always_of_twelve
     ∷ [])
 unfolding said earth_reply_of earth_reply owner_of
-laid_out_earth_not =
+from_earth_not =
     by_equation (λ a. earth_reply_of (said a.0)) (λ r. list (r.number ∷ r.place ∷ r.earthed ∷ r.start ∷ r.len ∷ r.owner ∷ [])) (λ a z e s. s) (tt, (tt, (tt, (tt, (tt, (tt, tt)))))) tt

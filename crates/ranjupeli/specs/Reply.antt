@@ -11,7 +11,7 @@ use Rattle.ranjupeli.specs.declared.Reply.{Reply}
 use Rattle.ranjupeli.specs.declared.WriteReply.{WriteReply}
 use Rattle.ranjupeli.specs.declared.EarthReply.{EarthReply}
 
-unfoldable pub owner_of : Lent → ℕ
+abbrev pub owner_of : Lent → ℕ
 owner_of NetworkBytes = 0
 owner_of FaultBytes = 1
 owner_of LabelBytes = 2

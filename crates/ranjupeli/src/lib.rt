@@ -26,26 +26,22 @@ pub struct Reply {
 fn owner(whose: Lent) -> u8
     ensures { result ≡ owner_of whose }
 {
-    match whose {
-        Lent::NetworkBytes => 0,
-        Lent::FaultBytes => 1,
-        Lent::LabelBytes => 2,
-    }
+    whose as u8
 }
 
-pub(crate) fn laid_out(a: Answer) -> Reply
-    ensures { result ≡ reply_of a }
-{
-    let part = a.part;
-    let whose = part.whose;
-    Reply {
-        amps: a.amps,
-        start: part.start,
-        len: part.len,
-        place: a.place,
-        n: a.n,
-        number: a.number,
-        owner: owner(whose),
+impl From<Answer> for Reply {
+    ghost from_gives = { λ a r. r ≡ reply_of a };
+
+    fn from(a: Answer) -> Reply {
+        Reply {
+            amps: a.amps,
+            start: a.part.start,
+            len: a.part.len,
+            place: a.place,
+            n: a.n,
+            number: a.number,
+            owner: owner(a.part.whose),
+        }
     }
 }
 
@@ -55,7 +51,7 @@ pub fn ranjupeli_solve(net: &[u8], flt: &[u8], buffer: &mut [i64]) -> Reply
     ensures buffer_after { buffer.new ≡ written net.now flt.now buffer.old }
 {
     let a = solve::solve(net, flt, buffer);
-    laid_out(a)
+    Reply::from(a)
 }
 
 // What writing returned. There is no part: no bytes were given.
@@ -67,13 +63,15 @@ pub struct WriteReply {
     pub number: u8,
 }
 
-pub(crate) fn laid_out_write(w: Written) -> WriteReply
-    ensures { result ≡ write_reply_of w }
-{
-    WriteReply {
-        len: w.len,
-        place: w.place,
-        number: w.number,
+impl From<Written> for WriteReply {
+    ghost from_gives = { λ w r. r ≡ write_reply_of w };
+
+    fn from(w: Written) -> WriteReply {
+        WriteReply {
+            len: w.len,
+            place: w.place,
+            number: w.number,
+        }
     }
 }
 
@@ -82,8 +80,7 @@ pub fn ranjupeli_write(volts: u16, unit: u16, boards: &[Board], out: &mut [u8]) 
     ensures value { result ≡ write_reply_of (write_verdict volts unit boards.now (length out.old)) }
     ensures out_after { out.new ≡ write_leaves volts unit boards.now out.old }
 {
-    let w = writer::write(volts, unit, boards, out);
-    laid_out_write(w)
+    WriteReply::from(writer::write(volts, unit, boards, out))
 }
 
 // What asking for an earth return gave: number 0, whether there is one (1, else 0) and the record that is named; or the rule that is broken. An answer shows no bytes.
@@ -111,28 +108,30 @@ fn named(place: u16, earthed: u8) -> EarthReply
     }
 }
 
-fn refused(why: Refusal) -> EarthReply
-    ensures { result ≡ earth_reply_of (refused_by why) }
-{
-    let part = why.part;
-    let whose = part.whose;
-    EarthReply {
-        start: part.start,
-        len: part.len,
-        place: why.place,
-        number: why.number,
-        owner: owner(whose),
-        earthed: 0,
+impl From<Refusal> for EarthReply {
+    ghost from_gives = { λ why r. r ≡ earth_reply_of (refused_by why) };
+
+    fn from(why: Refusal) -> EarthReply {
+        EarthReply {
+            start: why.part.start,
+            len: why.part.len,
+            place: why.place,
+            number: why.number,
+            owner: owner(why.part.whose),
+            earthed: 0,
+        }
     }
 }
 
-pub(crate) fn laid_out_earth(e: EarthReturn) -> EarthReply
-    ensures { result ≡ earth_reply_of (said e) }
-{
-    match e {
-        EarthReturn::From(r) => named(r, 1),
-        EarthReturn::Stopped(r) => named(r, 0),
-        EarthReturn::Refused(why) => refused(why),
+impl From<Result<EarthReturn, Refusal>> for EarthReply {
+    ghost from_gives = { λ e r. r ≡ earth_reply_of (said e) };
+
+    fn from(e: Result<EarthReturn, Refusal>) -> EarthReply {
+        match e {
+            Ok(EarthReturn::From(r)) => named(r, 1),
+            Ok(EarthReturn::Stopped(r)) => named(r, 0),
+            Err(why) => EarthReply::from(why),
+        }
     }
 }
 
@@ -140,6 +139,5 @@ pub(crate) fn laid_out_earth(e: EarthReturn) -> EarthReply
 pub fn ranjupeli_earth(net: &[u8], label: &[u8]) -> EarthReply
     ensures { result ≡ earth_reply_of (earth_said net.now label.now) }
 {
-    let e = return_path::earth(net, label);
-    laid_out_earth(e)
+    EarthReply::from(return_path::earth(net, label))
 }

@@ -1,13 +1,12 @@
 -- The reader's loop: after i records they have passed, their boards are sound, and the nodes of the table are theirs. Assumes nothing.
 use mathlib.Core.Bool.{Bool, true, false, cond}
 use mathlib.Core.List.{List, [], ◌∷◌, ◌++◌}
-use mathlib.Core.Logic.{◌⊎◌, inl, inr}
 use mathlib.Core.Option.{none, some}
 use mathlib.Core.Path.{◌≡◌, refl, sym, ◌∙◌, ap, subst}
 use Prim.Native.Nat.{ℕ, suc, ◌+◌, ◌-◌, ◌≤◌, ◌<◌}
 use native.Mathlib.Decide.{dec_le}
 use native.Mathlib.Omega.{arith}
-use lib.Dec.{ltb, lit≤}
+use lib.Dec.{ltb, eqb, lit≤}
 use lib.ListN.{length, get_or, take, drop, set}
 use lib.Seq.{length-take-le}
 use borrow.Author.Tests.{lt-ltb, le-ltb, eq-eqb, ne_eqb, eqb-true}
@@ -27,12 +26,15 @@ use Rattle.follows.proofs.Before.{feeder_before, head_before, earth_before, turn
 use Rattle.follows.proofs.Fit.{Fit, fit}
 use Rattle.follows.proofs.Sound.{Sound, sound_none, sum_wrong_is, going_on, sound_next, Tested, Z0_small, turn_small}
 use Rattle.node.specs.declared.Node.{Node}
-use Rattle.records.specs.declared.Step.{Step}
+use Rattle.std.specs.Prelude.{Result, Ok, Err}
+use Rattle.paper.specs.declared.Rule.{Rule}
+use Rattle.paper.specs.Rule.{number_of as the_number, rule_of, unless}
+use Rattle.paper.proofs.Rules.{kept_by, broken_by}
 use Rattle.node.specs.Node.{start_of, node_of, node_from, node_over, no_node, UpSmall}
-use Rattle.records.specs.Rules.{broken, earlier, step_of}
+use Rattle.records.specs.Rules.{broken, earlier, fed_by, step_of}
 use Rattle.node.specs.Tables.{table, nodes_from}
 use Rattle.records.proofs.Behind.{place_earlier, place_not_earlier, node_next}
-use Rattle.records.proofs.Record.{own_test, fed_test, record_broken, record_over, record_passes, Kept, all_kept}
+use Rattle.records.proofs.Record.{own_test, fed_test, broken_named, record_broken, record_over, record_passes, Kept, all_kept}
 use Rattle.node.proofs.Tables.{table_at, table_put, nodes_length, nodes_at, nodes_next}
 use Rattle.node.proofs.Records.{count, bytes_of, boards_count, before_next, all_boards, Passed, passed_none, passed_next, passed_refused, passed_all}
 
@@ -133,16 +135,21 @@ module _ (net : List ℕ) where
     feeder_to = omega (arith, feeder_is, place_most b.feeder before, so_far)
 
     -- the feeder's node, off the table
-    pub up_is : (d : Node) {up : Node} → ((feeder ≡ 0 → ⊥) × (up ≡ get_or nodes (feeder - 1) d)) ⊎ ((feeder ≡ 0) × (up ≡ no_node)) → up ≡ node_of before feeder
-    up_is d (inl (f, u)) =
-        let e : 1 + (feeder - 1) ≡ feeder = omega arith in
-        let g = feeder_to in
-        u ∙ ap (λ (l : List Node). get_or l (feeder - 1) d) read.are ∙ table_at no_node (nodes_from bs 1 i) (feeder - 1) d (omega (arith, nodes_length bs 1 i))
-        ∙ nodes_at d bs 1 i (feeder - 1) (omega arith)
-        ∙ ap (node_of bs) e
-        ∙ ap (λ (l : Boards). node_of l feeder) split
-        ∙ node_before before (b ∷ rest) feeder (omega (arith, so_far))
-    up_is d (inr (e, u)) = u ∙ sym (node_none before) ∙ ap (node_of before) (sym e)
+    pub up_is : fed_by feeder nodes ≡ node_of before feeder
+    unfolding fed_by
+    up_is = go (dec_le 1 feeder)
+      where
+        go : Dec (1 ≤ feeder) → cond (eqb feeder 0) no_node (get_or nodes (feeder - 1) no_node) ≡ node_of before feeder
+        go (yes p) =
+            let e : 1 + (feeder - 1) ≡ feeder = omega arith in
+            let g = feeder_to in
+            rw (ne_eqb feeder 0 (λ z. omega arith))
+            (ap (λ (l : List Node). get_or l (feeder - 1) no_node) read.are ∙ table_at no_node (nodes_from bs 1 i) (feeder - 1) no_node (omega (arith, nodes_length bs 1 i))
+            ∙ nodes_at no_node bs 1 i (feeder - 1) (omega arith)
+            ∙ ap (node_of bs) e
+            ∙ ap (λ (l : Boards). node_of l feeder) split
+            ∙ node_before before (b ∷ rest) feeder (omega (arith, so_far)))
+        go (no f) = let e : feeder ≡ 0 = omega arith in rw (eq-eqb feeder 0 e) (sym (node_none before) ∙ ap (node_of before) (sym e))
 
     -- the feeder is sound, or there is none
     pub up_small : (up : Node) → count net ≤ 256 → up ≡ node_of before feeder → UpSmall up
@@ -157,7 +164,7 @@ module _ (net : List ℕ) where
             subst UpSmall (sym (node_none before) ∙ ap (node_of before) e) none_up
 
     -- ---- this record's step
-    abbrev stepped : Node → Step
+    abbrev stepped : Node → Result Node Rule
     stepped up = step_of (suc i) (mark_of s) b own fed up
 
     abbrev refusal_of : ℕ → Refusal
@@ -234,35 +241,38 @@ module _ (net : List ℕ) where
               ∙ ap (λ (x : Node). table no_node (xs ++ (x ∷ []))) (node_is e ∙ ap (node_of bs) next_place)
               ∙ ap (table no_node) (sym (nodes_next bs 1 i))
 
-      -- ---- the two ways on: a number refuses the network, 0 goes on
-      kept_step : m ≡ 0 → stepped up ≡ record { node = node; number = cond (node_over node) 11 0 }
+      -- ---- the two ways on: a rule refuses the network, a node goes on
+      kept_step : m ≡ 0 → stepped up ≡ unless (cond (node_over node) 11 0) node
       unfolding step_of
       kept_step e = rw (eq-eqb m 0 e)
 
-      broken_step : (m ≡ 0 → ⊥) → stepped up ≡ record { node = no_node; number = m }
+      broken_step : (m ≡ 0 → ⊥) → stepped up ≡ unless m node
       unfolding step_of
       broken_step f = rw (ne_eqb m 0 f)
 
-      pub step_refused : (n : ℕ) → (stepped up).number ≡ suc n → records_refusal [] (records_of net) ≡ some (refusal_of (suc n))
-      step_refused n q = go (dec_le 1 m)
+      pub step_refused : {rule : Rule} → stepped up ≡ Err rule → records_refusal [] (records_of net) ≡ some (refusal_of (the_number rule))
+      unfolding rule_of
+      step_refused {rule} q = go (dec_le 1 m)
         where
-          over : m ≡ 0 → (c : Bool) → node_over node ≡ c → cond c 11 0 ≡ suc n → records_refusal [] (records_of net) ≡ some (refusal_of (suc n))
-          over e true v w = at_place (record_over before s rest (broken_is ∙ e) (sums_are e ∙ v)) ∙ ap (λ (k : ℕ). some (refusal_of k)) w
-          over e false v w = absurd (omega arith)
+          over : m ≡ 0 → (c : Bool) → node_over node ≡ c → unless (cond c 11 0) node ≡ Err rule → records_refusal [] (records_of net) ≡ some (refusal_of (the_number rule))
+          over e true v w = at_place (record_over before s rest (broken_is ∙ e) (sums_are e ∙ v)) ∙ ap (λ (k : Rule). some (refusal_of (the_number k))) (broken_by 11 node w).1
+          over e false v w = let n = (broken_by 0 node w).0 in absurd (omega arith)
 
-          go : Dec (1 ≤ m) → records_refusal [] (records_of net) ≡ some (refusal_of (suc n))
-          go (yes p) = at_place (record_broken before s rest n (broken_is ∙ (sym (ap (λ (t : Step). t.number) (broken_step (λ z. omega arith))) ∙ q)))
-          go (no f) = let e : m ≡ 0 = omega arith in over e (node_over node) refl (sym (ap (λ (t : Step). t.number) (kept_step e)) ∙ q)
+          go : Dec (1 ≤ m) → records_refusal [] (records_of net) ≡ some (refusal_of (the_number rule))
+          go (yes p) =
+              let named : rule_of m ≡ rule = (broken_by m node (sym (broken_step (λ z. omega arith)) ∙ q)).1 in
+              at_place (record_broken before s rest m p broken_is)
+              ∙ ap (λ (k : ℕ). some (refusal_of k)) (sym (broken_named (suc i) (mark_of s) b own fed p))
+              ∙ ap (λ (k : Rule). some (refusal_of (the_number k))) named
+          go (no f) = let e : m ≡ 0 = omega arith in over e (node_over node) refl (sym (kept_step e) ∙ q)
 
-      pub step_passes : (stepped up).number ≡ 0 → Read (suc i) (set nodes i (stepped up).node)
-      step_passes q = go (dec_le 1 m)
+      pub step_passes : {n : Node} → stepped up ≡ Ok n → Read (suc i) (set nodes i n)
+      step_passes {n} q = go (dec_le 1 m)
         where
-          fits : m ≡ 0 → (c : Bool) → node_over node ≡ c → ◌≡◌ {A = ℕ} (cond c 11 0) 0 → Read (suc i) (set nodes i node)
-          fits e true v w = absurd (omega arith)
-          fits e false v w = passes e v
+          fits : m ≡ 0 → (c : Bool) → node_over node ≡ c → unless (cond c 11 0) node ≡ Ok n → Read (suc i) (set nodes i n)
+          fits e true v w = let z = (kept_by 11 node w).0 in absurd (omega arith)
+          fits e false v w = subst (λ (k : Node). Read (suc i) (set nodes i k)) (kept_by 0 node w).1 (passes e v)
 
-          go : Dec (1 ≤ m) → Read (suc i) (set nodes i (stepped up).node)
-          go (yes p) = let z = sym (ap (λ (t : Step). t.number) (broken_step (λ z. omega arith))) ∙ q in absurd (omega arith)
-          go (no f) =
-              let e : m ≡ 0 = omega arith in
-              subst (λ (t : Step). Read (suc i) (set nodes i t.node)) (sym (kept_step e)) (fits e (node_over node) refl (sym (ap (λ (t : Step). t.number) (kept_step e)) ∙ q))
+          go : Dec (1 ≤ m) → Read (suc i) (set nodes i n)
+          go (yes p) = let z = (kept_by m node (sym (broken_step (λ z. omega arith)) ∙ q)).0 in absurd (omega arith)
+          go (no f) = let e : m ≡ 0 = omega arith in fits e (node_over node) refl (sym (kept_step e) ∙ q)

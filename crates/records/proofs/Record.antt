@@ -13,6 +13,7 @@ use Rattle.paper.specs.declared.Board.{Board}
 use Rattle.paper.specs.declared.Part.{Part}
 use Rattle.paper.specs.declared.Refusal.{Refusal}
 use Rattle.paper.specs.Label.{formed}
+use Rattle.paper.specs.Rule.{number_of as the_number, rule_of}
 use Rattle.paper.specs.Rows.{Test, test, rows_at, first}
 use Rattle.paper.specs.File.{mark_of, BD, board_of}
 use Rattle.paper.specs.Chain.{Boards, place_of}
@@ -54,6 +55,21 @@ unfolding number_of
 numbers_before [] us n = absurd (n refl)
 numbers_before (test m true ∷ ts) us n = refl
 numbers_before (test m false ∷ ts) us n = numbers_before ts us n
+
+-- every number of a list is a rule's, so the one that it gives is
+abbrev Named : List Test → Type 0
+Named [] = Unit {0}
+Named (test n b ∷ ts) = (the_number (rule_of n) ≡ n) × Named ts
+
+the_first_named : (ts : List Test) → Named ts → 1 ≤ number_of ts → the_number (rule_of (number_of ts)) ≡ number_of ts
+unfolding number_of
+the_first_named [] h m = absurd (omega arith)
+the_first_named (test n true ∷ ts) h m = h.0
+the_first_named (test n false ∷ ts) h m = the_first_named ts h.1 m
+
+pub broken_named : (r mark : ℕ) (b : Board) (own fed : ℕ) → 1 ≤ broken r mark b own fed → the_number (rule_of (broken r mark b own fed)) ≡ broken r mark b own fed
+unfolding broken rule_of
+broken_named r mark b own fed = the_first_named _ (refl, (refl, (refl, (refl, (refl, (refl, (refl, tt)))))))
 
 module _ (before : Boards) (s : List ℕ) (rest : Boards) where
   abbrev b : Board
@@ -127,9 +143,10 @@ module _ (before : Boards) (s : List ℕ) (rest : Boards) where
       ∷ [])))
       ∙ first_is place (the_record place) (own_tests ++ (test 11 sums ∷ [])) tt
 
-  pub record_broken : (n : ℕ) → broken place (mark_of s) (board_of s) own fed ≡ suc n → first (record_rows before s) ≡ some (record { part = the_record place; place = place; number = suc n })
+  pub record_broken : (n : ℕ) → 1 ≤ n → broken place (mark_of s) (board_of s) own fed ≡ n → first (record_rows before s) ≡ some (record { part = the_record place; place = place; number = n })
   unfolding broken own_tests
-  record_broken n e = record_is ∙ ap (refused_at place (the_record place)) (numbers_before own_tests (test 11 sums ∷ []) (λ z. omega (arith, e, z)) ∙ e)
+  record_broken zero h e = absurd (omega arith)
+  record_broken (suc n) h e = record_is ∙ ap (refused_at place (the_record place)) (numbers_before own_tests (test 11 sums ∷ []) (λ z. omega (arith, e, z)) ∙ e)
 
   -- with 5 to 10 and 21 kept, the sums decide
   record_kept : broken place (mark_of s) (board_of s) own fed ≡ 0 → first (record_rows before s) ≡ refused_at place (the_record place) (cond sums 11 0)
@@ -157,7 +174,7 @@ pub record Kept (r mark : ℕ) (b : Board) (own fed : ℕ) : Type 0 where
 
 pub all_kept : (r mark : ℕ) (b : Board) (own fed : ℕ) → broken r mark b own fed ≡ 0 → Kept r mark b own fed
 unfolding broken
-all_kept r mark b own fed e =
+all_kept r mark b own theirs e =
     let (_, e5) = kept 4 _ _ e in
     let (t6, e6) = kept 5 _ _ e5 in
     let (t7, e7) = kept 6 _ _ e6 in

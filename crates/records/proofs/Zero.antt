@@ -42,14 +42,14 @@ module _ (n : Node) (b : Board) (r : ℕ) (up : Node) where
     abbrev zero : Zero
     zero = (kind_of b.kind).zero_seq
 
-    pub node_starts : {z0 : Ohms} {m : Node} → w ≡ Starts → z0 ≡ zero_term zero b → m ≡ zeroed n z0 r r → m ≡ with_zero n b r zero up
-    node_starts h e me = me ∙ ap (λ (z : Ohms). zeroed n z r r) e ∙ zero_starts zero (sym we ∙ h)
+    pub node_starts : {z0 : Ohms} → w ≡ Starts → z0 ≡ zero_term zero b → zeroed n z0 r r ≡ with_zero n b r zero up
+    node_starts h e = ap (λ (z : Ohms). zeroed n z r r) e ∙ zero_starts zero (sym we ∙ h)
 
-    pub node_on : {z0 : Ohms} {m : Node} → w ≡ GoesOn → z0 ≡ cond (eqb up.start 0) (ohms 0 0) (zero_term zero b +Ω up.z0) → m ≡ zeroed n z0 up.head up.start → m ≡ with_zero n b r zero up
-    node_on h e me = me ∙ ap (λ (z : Ohms). zeroed n z up.head up.start) e ∙ zero_on zero (sym we ∙ h)
+    pub node_on : {z0 : Ohms} → w ≡ GoesOn → z0 ≡ cond (eqb up.start 0) (ohms 0 0) (zero_term zero b +Ω up.z0) → zeroed n z0 up.head up.start ≡ with_zero n b r zero up
+    node_on h e = ap (λ (z : Ohms). zeroed n z up.head up.start) e ∙ zero_on zero (sym we ∙ h)
 
-    pub node_blocked : {m : Node} → w ≡ Blocked → m ≡ zeroed n (ohms 0 0) r 0 → m ≡ with_zero n b r zero up
-    node_blocked h me = me ∙ zero_blocked zero (sym we ∙ h)
+    pub node_blocked : w ≡ Blocked → zeroed n (ohms 0 0) r 0 ≡ with_zero n b r zero up
+    node_blocked h = zero_blocked zero (sym we ∙ h)
 
 -- a record's term is at most 16,380
 pub term_small : (b : Board) {t : Ohms} → OwnSmall b → t ≡ zero_term (kind_of b.kind).zero_seq b → AtMost 16380 t

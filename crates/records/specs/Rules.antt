@@ -1,15 +1,16 @@
 -- Record r by its mark, its board, the first places of its label and of its feeder's among all boards, and its feeder's node: what the reader computes. That these are the paper's
 -- rules is a theorem (proofs/, `Record`). Assumes nothing.
-use Rattle.std.specs.Prelude.{Bool, not, cond, ◌||◌, List, [], ◌∷◌, ℕ, leb, ltb, eqb}
+use Rattle.std.specs.Prelude.{Bool, not, cond, ◌||◌, List, [], ◌∷◌, ℕ, ◌-◌, leb, ltb, eqb, get_or, Result}
 use Rattle.paper.specs.declared.Board.{Board}
 use Rattle.paper.specs.Bytes.{same_bytes}
 use Rattle.paper.specs.Label.{spaces, formed}
 use Rattle.paper.specs.File.{BD}
 use Rattle.paper.specs.Rows.{Test, test}
+use Rattle.paper.specs.declared.Rule.{Rule}
+use Rattle.paper.specs.Rule.{unless}
 use Rattle.paper.specs.Refusal.{kind_wrong, impedance_wrong, z1_forgotten}
 use Rattle.node.specs.declared.Node.{Node}
 use Rattle.node.specs.Node.{node_from, node_over, no_node}
-use Rattle.records.specs.declared.Step.{Step}
 
 -- record 1: no twelve spaces; others: the first place is none, or not before r
 unfoldable pub fed_wrong : ℕ → Board → ℕ → Bool
@@ -36,8 +37,12 @@ broken r mark b own fed =
 unfoldable pub earlier : ℕ → ℕ → ℕ
 earlier r fed = cond (ltb fed r) fed 0
 
+-- the feeder's node, off a table; none where there is no feeder
+unfoldable pub fed_by : ℕ → List Node → Node
+fed_by feeder nodes = cond (eqb feeder 0) no_node (get_or nodes (feeder - 1) no_node)
+
 -- 5 to 11 with 21, and the node where they are kept
-unfoldable pub step_of : ℕ → ℕ → Board → ℕ → ℕ → Node → Step
+unfoldable pub step_of : ℕ → ℕ → Board → ℕ → ℕ → Node → Result Node Rule
 step_of r mark b own fed up =
     let n = node_from r b (earlier r fed) up in
-    cond (eqb (broken r mark b own fed) 0) (record { node = n; number = cond (node_over n) 11 0 }) (record { node = no_node; number = broken r mark b own fed })
+    unless (cond (eqb (broken r mark b own fed) 0) (cond (node_over n) 11 0) (broken r mark b own fed)) n

@@ -2,80 +2,109 @@
 #![tactic(auto)]
 
 mod rules;
-pub mod sums;
+mod sums;
 
 ghost use Rattle.std.specs.Prelude.{◌≡◌, ◌+◌, ◌*◌, ◌≤◌, length, []};
 ghost use Rattle.std.proofs.Math.Option.{none};
 ghost use Rattle.paper.specs.File.{head_of, records_of, boards_of};
-ghost use Rattle.paper.specs.Refusal.{records_refusal};
+ghost use Rattle.paper.specs.Refusal.{records_refusal, the_record};
+ghost use Rattle.paper.specs.Rule.{number_of, or_refused};
+ghost use Rattle.label.specs.Places.{places_of};
 ghost use Rattle.node.specs.Node.{no_node};
-ghost use Rattle.node.specs.Rows.{nodes_in};
 ghost use Rattle.node.specs.Tables.{table, nodes_of};
 ghost use Rattle.records.specs.Judging.{judgement};
+ghost use Rattle.records.specs.Rules.{fed_by};
 
-use crate::rules::{earlier, step};
-use crate::sums::no_node;
+use crate::rules::Entry;
 use file::bytes::board_of;
 use file::field::u16_at;
-use label::places::places_in;
-use node::{NUMBERS, Node, index, node_at, put_node};
+use label::places::{Place, places_in};
+use node::Node;
+use paper::{Lent, Part, Refusal, Rule};
 
-// A record judged: the number of the first broken rule of 5 to 11 with 21, or 0 and its node.
-#[derive(Clone, Copy)]
-pub(crate) struct Step {
-    pub node: Node,
-    pub number: u8,
-}
-
-// The records judged: the number and the place of the first that is refused, or 0 and 0; and the place of the board that is asked for (0: none).
+// The records judged: all kept, or the first that is refused; and either way the place of the board that is asked for (0: none).
 #[derive(Clone, Copy)]
 pub struct Judged {
     pub asked: u16,
-    pub place: u16,
-    pub number: u8,
+    pub outcome: Result<(), Refusal>,
 }
 
-// Rows that say no node are filled with the nodes of all records. What they hold where a record is refused is nobody's.
-// A record is decoded again where it is judged: to pass the table of boards would copy it.
-pub fn judge(net: &[u8], n: usize, label: [u8; 12], nodes: &mut [[u16; NUMBERS]; 256]) -> Judged
-    requires n_value { (n ≡ (head_of net.now).boards) × (n ≤ 256) × (length net.now ≡ 8 + 44 * n) }
-    requires nodes_value { nodes_in nodes.old ≡ table no_node [] }
-    ensures value { result ≡ judgement net.now label }
-    ensures nodes_after { records_refusal [] (records_of net.now) ≡ none → nodes_in nodes.new ≡ table no_node (nodes_of (boards_of net.now)) }
+// Record r, refused: its own bytes are shown.
+fn refused(r: usize, rule: Rule) -> Refusal
+    requires { (1 ≤ r) × (r ≤ 256) }
+    ensures { result ≡ record { part = the_record r; place = r; number = number_of rule } }
 {
-    let found = places_in(net, n, label);
-    let asked = found.asked;
-    let none = no_node();
-    let mut i: usize = 0;
-    while i < n {
+    let part = Part {
+        whose: Lent::NetworkBytes,
+        start: 8 + 44 * (r - 1),
+        len: 44,
+    };
+    Refusal {
+        part,
+        place: r as u16,
+        number: rule.number(),
+    }
+}
+
+// The node of a record's feeder, off the table.
+#[tactic(auto, unfolding(crate::specs::Rules::fed_by))]
+fn fed_by(feeder: usize, nodes: &[Node; 256]) -> Node
+    requires { feeder ≤ 256 }
+    ensures { result ≡ fed_by feeder nodes.now }
+{
+    if feeder == 0 {
+        Node::NONE
+    } else {
+        nodes[feeder - 1]
+    }
+}
+
+// A record is decoded again where it is judged: to pass the table of boards would copy it.
+fn judge_all(
+    net: &[u8],
+    n: usize,
+    places: &[Place; 256],
+    nodes: &mut [Node; 256],
+) -> Result<(), Refusal>
+    requires n_value { (n ≡ (head_of net.now).boards) × (n ≤ 256) × (length net.now ≡ 8 + 44 * n) }
+    requires places_value { places.now ≡ places_of (boards_of net.now) }
+    requires nodes_value { nodes.old ≡ table no_node [] }
+    ensures value { result ≡ or_refused (records_refusal [] (records_of net.now)) tt }
+    ensures nodes_after { records_refusal [] (records_of net.now) ≡ none → nodes.new ≡ table no_node (nodes_of (boards_of net.now)) }
+{
+    for i in 0..n {
         let r = i + 1;
         let a = 8 + 44 * i;
         let e = a + 44;
-        let mark = u16_at(net, a);
-        let b = board_of(&net[a..e]);
-        let mine = index(found.places.own[i]);
-        let theirs = index(found.places.fed[i]);
-        let feeder = earlier(r, theirs);
-        let mut up = none;
-        if feeder != 0 {
-            up = node_at(nodes, feeder - 1);
+        let place = places[i];
+        let entry = Entry {
+            r,
+            mark: u16_at(net, a),
+            b: board_of(&net[a..e]),
+            own: place.own as usize,
+            fed: place.fed as usize,
+        };
+        let up = fed_by(entry.earlier(), nodes);
+        match entry.step(up) {
+            Ok(node) => nodes[i] = node,
+            Err(rule) => return Err(refused(r, rule)),
         }
-        let s = step(r, mark, b, mine, theirs, up);
-        let number = s.number;
-        if number != 0 {
-            return Judged {
-                asked,
-                place: r as u16,
-                number,
-            };
-        }
-        let node = s.node;
-        put_node(nodes, i, node);
-        i += 1;
     }
+    Ok(())
+}
+
+// n and what is asked of it stay beside net: a type that holds them would ask more of those who call this.
+// n stands beside net with its clause: a type that held both would ask more of who calls. A table of nodes that say none is filled with those of all records. What it holds where a record is refused is nobody's.
+pub fn judge(net: &[u8], n: usize, label: [u8; 12], nodes: &mut [Node; 256]) -> Judged
+    requires n_value { (n ≡ (head_of net.now).boards) × (n ≤ 256) × (length net.now ≡ 8 + 44 * n) }
+    requires nodes_value { nodes.old ≡ table no_node [] }
+    ensures value { result ≡ judgement net.now label }
+    ensures nodes_after { records_refusal [] (records_of net.now) ≡ none → nodes.new ≡ table no_node (nodes_of (boards_of net.now)) }
+{
+    let found = places_in(net, n, label);
+    let outcome = judge_all(net, n, &found.places, nodes);
     Judged {
-        asked,
-        place: 0,
-        number: 0,
+        asked: found.asked,
+        outcome,
     }
 }

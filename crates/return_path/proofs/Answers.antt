@@ -8,10 +8,10 @@ use native.Mathlib.Omega.{arith}
 use lib.Dec.{eqb}
 use lib.ListN.{length, get_or}
 use borrow.Author.Tests.{eq-eqb, ne_eqb, eqb-true, eqb-false}
+use Rattle.std.specs.Prelude.{Result, Ok, Err}
 use Rattle.lemmas.proofs.Bools.{neither, same_by}
 use Rattle.paper.specs.declared.Refusal.{Refusal}
 use Rattle.paper.specs.declared.Lent.TheVariants.{LabelBytes}
-use Rattle.paper.specs.declared.Outcome.TheVariants.{Accepted, Refused}
 use Rattle.paper.specs.Bytes.{bytes_at, part}
 use Rattle.paper.specs.Label.{Label, spaces}
 use Rattle.paper.specs.File.{boards_of}
@@ -53,13 +53,13 @@ module _ (net : List ℕ) (l : Label) where
   abbrev bs : Boards
   bs = boards_of net
 
-  -- ---- the network's own refusals: g was read
-  pub says_network : (w : Label) {g : Network} {why : Refusal} → g ≡ network_of net w → g.outcome ≡ Refused why → refused_by why ≡ earth_said net l
+  -- ---- the network's own refusals: it was read
+  pub says_network : (w : Label) {g : Result Network Refusal} {why : Refusal} → g ≡ network_of net w → g ≡ Err why → refused_by why ≡ earth_said net l
   unfolding earth_said earth_rows refused_or
   says_network w read h = sym (ap (λ (o : Option Refusal). refused_or o (return_at bs (place_of l bs))) (ahead (network_rows net) (label_rows bs l) (network_broken net w read h)))
 
-  -- ---- g was read and accepted, and k is where the label was found that the bytes say
-  module _ (w : Label) {g : Network} {k : ℕ} (w-is : w ≡ cond (eqb (length l) 12) (bytes_at 12 l 0) spaces) (read : g ≡ network_of net w) (taken : g.outcome ≡ Accepted) (k_is : k ≡ g.k) where
+  -- ---- it was read and accepted as g, and k is where the label was found that the bytes say
+  module _ (w : Label) {r : Result Network Refusal} {g : Network} {k : ℕ} (w-is : w ≡ cond (eqb (length l) 12) (bytes_at 12 l 0) spaces) (read : r ≡ network_of net w) (taken : r ≡ Ok g) (k_is : k ≡ g.k) where
     kept : network_refusal net ≡ none
     kept = (network_kept net w read taken).0
 

@@ -1,5 +1,3 @@
-mod Compared
 pub mod Laws
-pub mod WideLaws
 pub mod Tested
 mod RuledOut

@@ -12,23 +12,16 @@ use std::io::Write;
 // What is read of the fault at most: all of a sound one, and a byte more, so that a longer one is refused and not cut to a sound one.
 const FAULT: usize = 21;
 
+// Room for the numbers of 256 boards, and for every text.
+const NUMBERS: usize = 6157;
+
+const PAGE: usize = 161665;
+
+// What may not change: its clause says that FAULT is the paper's limit. An array of main's would say nothing of it.
 fn fault_space() -> [u8; FAULT]
     ensures { fault_most ≡ length result }
 {
     [0; FAULT]
-}
-
-// Room for the numbers of 256 boards, and for every text. The contracts give only the lengths, which lending needs.
-fn numbers() -> [i64; 6157]
-    ensures { 6157 ≡ length result }
-{
-    [0; 6157]
-}
-
-fn page() -> [u8; 161665]
-    ensures { 161665 ≡ length result }
-{
-    [0; 161665]
 }
 
 // All that the program does between reading and writing.
@@ -36,16 +29,16 @@ fn answer(out: &mut [u8], net: &[u8], flt: &[u8]) -> usize
     requires { text_most ≤ length out.old }
     ensures { Wrote 0 (printed net.now flt.now) out.old out.new result }
 {
-    let mut space = numbers();
+    let mut space = [0i64; NUMBERS];
     let given = solve::solve(net, flt, &mut space);
     text::print(out, net, flt, given, &space)
 }
 
-// Where it answers true, the answer stands on standard output behind what was there.
+// Where it answers true, the answer stands on standard output behind what was there. What `earth` does alike is `console::print`; over a closure for the answer it would be no plainer.
 fn show<O: Write, E: Write>(stdout: &mut O, stderr: &mut E, net: &[u8], flt: &[u8]) -> bool
     ensures { IsTrue result → Appends (O.contents stdout.old) (O.contents stdout.new) (printed net.now flt.now) }
 {
-    let mut out = page();
+    let mut out = [0u8; PAGE];
     let end = answer(&mut out, net, flt);
     console::print(
         stdout,

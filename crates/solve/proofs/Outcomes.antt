@@ -2,13 +2,14 @@
 use mathlib.Core.Bool.{Bool, cond}
 use mathlib.Core.List.{List}
 use mathlib.Core.Option.{none, some}
-use mathlib.Core.Path.{◌≡◌, sym, ◌∙◌, ap}
+use mathlib.Core.Path.{◌≡◌, refl, sym, ◌∙◌, ap}
 use Prim.Native.Nat.{ℕ, ◌≤◌}
 use native.Mathlib.Omega.{arith}
 use lib.IntN.{ℤ}
 use lib.Dec.{eqb}
 use lib.ListN.{length}
 use borrow.Author.Tests.{eq-eqb}
+use Rattle.std.specs.Prelude.{Result, Ok, Err}
 use Rattle.lemmas.specs.Over.{over}
 use Rattle.paper.specs.declared.Answer.{Answer}
 use Rattle.paper.specs.declared.Refusal.{Refusal}
@@ -27,7 +28,6 @@ use Rattle.node.specs.declared.Node.{Node}
 use Rattle.node.specs.Node.{no_node}
 use Rattle.node.specs.Tables.{table, nodes_of}
 use Rattle.network.specs.declared.Network.{Network}
-use Rattle.paper.specs.declared.Outcome.TheVariants.{Accepted, Refused}
 use Rattle.network.specs.Network.{accepted_network, network_of}
 use Rattle.network.proofs.Kept.{network_kept, network_broken, network_boards}
 use Rattle.ask.specs.declared.question.Question.{Question}
@@ -39,22 +39,21 @@ use Rattle.answer.specs.Posed.{Posed}
 use Rattle.solve.proofs.Ready.{accepted_ready}
 use Rattle.solve.proofs.Promised.{Allowed, refused_verdict, refused_written, accepted_verdict, accepted_written}
 
--- ---- the network's own refusals: g was read
-pub refused_network_lem : (net flt : List ℕ) (room : ℕ) (l : Label) {g : Network} {why : Refusal} → g ≡ network_of net l → g.outcome ≡ Refused why → refusal net flt room ≡ some why
+-- ---- the network's own refusals: it was read
+pub refused_network_lem : (net flt : List ℕ) (room : ℕ) (l : Label) {g : Result Network Refusal} {why : Refusal} → g ≡ network_of net l → g ≡ Err why → refusal net flt room ≡ some why
 unfolding solve_rows
 refused_network_lem net flt room l read h = ahead (network_rows net) (fault_rows (boards_of net) flt room) (network_broken net l read h)
 
--- ---- g was read and accepted, and a was asked of it
-pub record Asking (net flt : List ℕ) (room : ℕ) (g : Network) (a : Question) : Type 0 where
+-- ---- it was accepted, as g, and a is what was answered when it was asked
+pub record Asking (net flt : List ℕ) (room : ℕ) (g : Network) (a : Result Question Refusal) : Type 0 where
   pub label : Label
   pub label_is : label ≡ cond (eqb (length flt) 20) (bytes_at 12 flt 2) spaces
-  pub read : g ≡ network_of net label
-  pub taken : g.outcome ≡ Accepted
+  pub read : Ok g ≡ network_of net label
   pub told : a ≡ ask_of flt g.k g.head.boards room
 
-module _ {net flt : List ℕ} {room : ℕ} {g : Network} {a : Question} (b : Asking net flt room g a) where
+module _ {net flt : List ℕ} {room : ℕ} {g : Network} {a : Result Question Refusal} (b : Asking net flt room g a) where
   as_read : (network_refusal net ≡ none) × (g ≡ accepted_network net b.label)
-  as_read = network_kept net b.label b.read b.taken
+  as_read = network_kept net b.label b.read refl
 
   -- the place is that of the fault's label, where the fault has 20 bytes
   as_placed : length flt ≡ 20 → g.k ≡ place_of (fault_of flt).label (boards_of net)
@@ -62,7 +61,7 @@ module _ {net flt : List ℕ} {room : ℕ} {g : Network} {a : Question} (b : Ask
   as_placed e = ap (λ (x : Network). x.k) as_read.1 ∙ ap (λ (l : Label). place_of l (boards_of net)) (b.label_is ∙ ap (λ (t : Bool). cond t (bytes_at 12 flt 2) spaces) (eq-eqb (length flt) 20 e))
 
   pub as_counted : g.head.boards ≡ length (boards_of net)
-  as_counted = network_boards net b.label b.read b.taken
+  as_counted = network_boards net b.label b.read refl
 
   -- so what is asked of it is what the paper asks
   as_told : a ≡ paper_asks (boards_of net) flt room
@@ -73,27 +72,27 @@ module _ {net flt : List ℕ} {room : ℕ} {g : Network} {a : Question} (b : Ask
   by_fault = behind (network_rows net) (fault_rows (boards_of net) flt room) as_read.0
 
   -- 12 to 19
-  pub refused_fault : {why : Refusal} → a.outcome ≡ Refused why → refusal net flt room ≡ some why
-  refused_fault h = by_fault ∙ broken (boards_of net) flt room (ap (λ (x : Question). x.outcome) (sym as_told) ∙ h)
+  pub refused_fault : {why : Refusal} → a ≡ Err why → refusal net flt room ≡ some why
+  refused_fault h = by_fault ∙ broken (boards_of net) flt room (sym as_told ∙ h)
 
   -- none is broken, and the call holds the question
-  module _ (heard : a.outcome ≡ Accepted) where
-    as_kept : (first (fault_rows (boards_of net) flt room) ≡ none) × (paper_asks (boards_of net) flt room ≡ accepted_question (fault_of flt) (place_of (fault_of flt).label (boards_of net)))
-    as_kept = kept (boards_of net) flt room (ap (λ (x : Question). x.outcome) (sym as_told) ∙ heard)
+  module _ {q : Question} (heard : a ≡ Ok q) where
+    as_kept : (first (fault_rows (boards_of net) flt room) ≡ none) × (q ≡ accepted_question (fault_of flt) (place_of (fault_of flt).label (boards_of net)))
+    as_kept = kept (boards_of net) flt room (sym as_told ∙ heard)
 
     pub none_broken : refusal net flt room ≡ none
     none_broken = by_fault ∙ as_kept.0
 
-    -- the rows are filled where the network is accepted
-    pub as_posed : {nodes : List Node} → (network_refusal net ≡ none → nodes ≡ table no_node (nodes_of (boards_of net))) → Posed (asked net flt) g.head nodes a.fault a.k
+    -- the nodes are there where the network is accepted
+    pub as_posed : {nodes : List Node} → (network_refusal net ≡ none → nodes ≡ table no_node (nodes_of (boards_of net))) → Posed (asked net flt) g.head nodes q.fault q.k
     unfolding asked
     as_posed filled =
         record {
           ready = accepted_ready net flt room none_broken;
           same_head = ap (λ (x : Network). x.head) as_read.1;
           nodes_are = filled as_read.0;
-          same_fault = ap (λ (x : Question). x.fault) (as_told ∙ as_kept.1);
-          same_place = ap (λ (x : Question). x.k) (as_told ∙ as_kept.1);
+          same_fault = ap (λ (x : Question). x.fault) as_kept.1;
+          same_place = ap (λ (x : Question). x.k) as_kept.1;
         }
 
     pub room_there : answer_size g.head.boards ≤ room

@@ -6,18 +6,20 @@ use native.Mathlib.Omega.{arith}
 use lib.IntN.{ℤ, pos}
 use lib.ListN.{length, get_or, replicate}
 use base.Fml.{Lft}
+use Rattle.std.specs.Prelude.{Result, Ok, Err}
 use denote.Ref.{Bor}
 use Rattle.lemmas.proofs.RuledOut.{◌↛◌, RuledOut, ever, ends, by, by_equation, list, wholes, lent, lent_out}
 use Rattle.lemmas.specs.Table.{tab}
 use Rattle.lemmas.specs.Little.{little}
 use Rattle.decimal.specs.Word.{word_of}
-use Rattle.decimal.proofs.Told.{dots, leaves, by_room}
+use Rattle.decimal.proofs.Told.{pen, leaves, by_room}
 use Rattle.paper.specs.declared.Lent.TheVariants.{FaultBytes, LabelBytes}
 use Rattle.paper.specs.declared.Board.{Board}
 use Rattle.paper.specs.declared.Answer.{Answer}
 use Rattle.paper.specs.declared.Written.{Written}
 use Rattle.paper.specs.declared.EarthReturn.{EarthReturn}
-use Rattle.paper.specs.declared.EarthReturn.TheVariants.{From, Stopped, Refused}
+use Rattle.paper.specs.declared.Refusal.{Refusal}
+use Rattle.paper.specs.declared.EarthReturn.TheVariants.{From, Stopped}
 use Rattle.paper.specs.Return.{said}
 use Rattle.paper.specs.Bytes.{part, bytes_open}
 use Rattle.paper.specs.File.{board_of, records, decoded, file_open}
@@ -60,8 +62,8 @@ abbrev output : Bor (List ℕ)
 output = lent (7 ∷ 8 ∷ [])
 
 -- 14 for a label of four bytes
-abbrev unknown : EarthReturn
-unknown = Refused (record { part = part LabelBytes 0 4; place = 0; number = 14 })
+abbrev unknown : Result EarthReturn Refusal
+unknown = Err (record { part = part LabelBytes 0 4; place = 0; number = 14 })
 
 -- two boards, and tables told apart by what their first two say of kind and clock
 abbrev bytes : ℕ → ℕ → List ℕ
@@ -110,34 +112,34 @@ module _ (κ : Lft) where
   unfolding byte_marks
   mark_bytes_not = by (λ z. list z.1.0.now) (λ a. list (byte_marks (length a.0.now))) (λ a z s i. list (s i)) (tt, (tt, (tt, tt))) tt
 
-module _ (κ κ' : Lft) where
-  pub put_written_not : RuledOut (put_written_call.Pre (κ, (κ', tt))) (leaves (put_written_call.Post (κ, (κ', tt)))) (
-      (dots 30, (0, (written, (output, tt)))) ↛ (30, fours (2 ∷ 9 ∷ 1 ∷ 2 ∷ 5 ∷ 4 ∷ 2 ∷ []) ++ (7 ∷ 8 ∷ []))  -- place_for_number_written
-      ∷ (dots 30, (0, (written, (output, tt)))) ↛ (30, fours (9 ∷ 2 ∷ 2 ∷ 2 ∷ 5 ∷ 4 ∷ 2 ∷ []) ++ (7 ∷ 8 ∷ []))  -- room_for_the_file
-      ∷ (dots 30, (0, (written, (output, tt)))) ↛ (29, fours (9 ∷ 2 ∷ 1 ∷ 2 ∷ 5 ∷ 4 ∷ 1 ∷ []) ++ (7 ∷ 46 ∷ []))  -- file_alone
-      ∷ (dots 30, (0, (written, (output, tt)))) ↛ (26, fours (9 ∷ 2 ∷ 1 ∷ 2 ∷ 5 ∷ 4 ∷ []) ++ (7 ∷ 8 ∷ replicate 4 46))  -- room_left_out
+module _ (κ κ₀ κ' : Lft) where
+  pub put_written_not : RuledOut (put_written_call.Pre (κ, (κ₀, (κ', tt)))) (leaves (put_written_call.Post (κ, (κ₀, (κ', tt))))) (
+      (pen 30 0, (written, (output, tt))) ↛ (30, fours (2 ∷ 9 ∷ 1 ∷ 2 ∷ 5 ∷ 4 ∷ 2 ∷ []) ++ (7 ∷ 8 ∷ []))  -- place_for_number_written
+      ∷ (pen 30 0, (written, (output, tt))) ↛ (30, fours (9 ∷ 2 ∷ 2 ∷ 2 ∷ 5 ∷ 4 ∷ 2 ∷ []) ++ (7 ∷ 8 ∷ []))  -- room_for_the_file
+      ∷ (pen 30 0, (written, (output, tt))) ↛ (29, fours (9 ∷ 2 ∷ 1 ∷ 2 ∷ 5 ∷ 4 ∷ 1 ∷ []) ++ (7 ∷ 46 ∷ []))  -- file_alone
+      ∷ (pen 30 0, (written, (output, tt))) ↛ (26, fours (9 ∷ 2 ∷ 1 ∷ 2 ∷ 5 ∷ 4 ∷ []) ++ (7 ∷ 8 ∷ replicate 4 46))  -- room_left_out
       ∷ [])
   unfolding written_of part_of whose_of three_of little
   put_written_not = by_room (λ b. written_of b.0 b.1.0.now) tt tt
 
-  pub put_said_not : RuledOut (put-said.Pre (κ, (κ', tt))) (leaves (put-said.Post (κ, (κ', tt)))) (
-      (dots 24, (0, (From 3, (lent [], tt)))) ↛ (24, fours (0 ∷ 3 ∷ 0 ∷ 0 ∷ 0 ∷ 0 ∷ []))  -- from_is_stopped
-      ∷ (dots 24, (0, (Stopped 3, (lent [], tt)))) ↛ (24, fours (0 ∷ 3 ∷ 1 ∷ 0 ∷ 0 ∷ 0 ∷ []))  -- stopped_is_from
-      ∷ (dots 24, (0, (Stopped 3, (lent [], tt)))) ↛ (24, fours (0 ∷ 3 ∷ 0 ∷ 1 ∷ 0 ∷ 0 ∷ []))  -- nothing_of_the_network
-      ∷ (dots 28, (0, (unknown, (shown, tt)))) ↛ (28, fours (14 ∷ 0 ∷ 0 ∷ 2 ∷ 0 ∷ 4 ∷ 9 ∷ []))  -- label_shown_as_a_fault
-      ∷ (dots 28, (0, (unknown, (shown, tt)))) ↛ (28, fours (14 ∷ 0 ∷ 1 ∷ 3 ∷ 0 ∷ 4 ∷ 9 ∷ []))  -- refused_with_a_return
-      ∷ (dots 28, (0, (unknown, (shown, tt)))) ↛ (24, fours (14 ∷ 0 ∷ 0 ∷ 3 ∷ 0 ∷ 4 ∷ []) ++ replicate 4 46)  -- label_left_out
+  pub put_said_not : RuledOut (put-said.Pre (κ, (κ₀, (κ', tt)))) (leaves (put-said.Post (κ, (κ₀, (κ', tt))))) (
+      (pen 24 0, (Ok (From 3), (lent [], tt))) ↛ (24, fours (0 ∷ 3 ∷ 0 ∷ 0 ∷ 0 ∷ 0 ∷ []))  -- from_is_stopped
+      ∷ (pen 24 0, (Ok (Stopped 3), (lent [], tt))) ↛ (24, fours (0 ∷ 3 ∷ 1 ∷ 0 ∷ 0 ∷ 0 ∷ []))  -- stopped_is_from
+      ∷ (pen 24 0, (Ok (Stopped 3), (lent [], tt))) ↛ (24, fours (0 ∷ 3 ∷ 0 ∷ 1 ∷ 0 ∷ 0 ∷ []))  -- nothing_of_the_network
+      ∷ (pen 28 0, (unknown, (shown, tt))) ↛ (28, fours (14 ∷ 0 ∷ 0 ∷ 2 ∷ 0 ∷ 4 ∷ 9 ∷ []))  -- label_shown_as_a_fault
+      ∷ (pen 28 0, (unknown, (shown, tt))) ↛ (28, fours (14 ∷ 0 ∷ 1 ∷ 3 ∷ 0 ∷ 4 ∷ 9 ∷ []))  -- refused_with_a_return
+      ∷ (pen 28 0, (unknown, (shown, tt))) ↛ (24, fours (14 ∷ 0 ∷ 0 ∷ 3 ∷ 0 ∷ 4 ∷ []) ++ replicate 4 46)  -- label_left_out
       ∷ [])
   unfolding said said_of shown_of part_of whose_of three_of little
   put_said_not = by_room (λ b. said_of (said b.0) b.1.0.now) tt tt
 
-module _ (κ κ' κ'' : Lft) where
-  pub put_answer_not : RuledOut (put-answer.Pre (κ, (κ', (κ'', tt)))) (leaves (put-answer.Post (κ, (κ', (κ'', tt))))) (
-      (dots 56, (0, (answer, (shown, (lent (numbers 7 8), tt))))) ↛ (56, fours (2 ∷ 2 ∷ 3 ∷ 4 ∷ 0 ∷ 2 ∷ 5 ∷ 4 ∷ 9 ∷ 2 ∷ 7 ∷ 0 ∷ 8 ∷ 0 ∷ []))  -- place_for_number
-      ∷ (dots 56, (0, (answer, (shown, (lent (numbers 7 8), tt))))) ↛ (56, fours (1 ∷ 2 ∷ 3 ∷ 4 ∷ 0 ∷ 1 ∷ 5 ∷ 4 ∷ 9 ∷ 2 ∷ 7 ∷ 0 ∷ 8 ∷ 0 ∷ []))  -- always_the_network
-      ∷ (dots 56, (0, (answer, (shown, (lent (numbers 7 8), tt))))) ↛ (52, fours (1 ∷ 2 ∷ 3 ∷ 4 ∷ 0 ∷ 2 ∷ 5 ∷ 4 ∷ 2 ∷ 7 ∷ 0 ∷ 8 ∷ 0 ∷ []) ++ replicate 4 46)  -- part_left_out
-      ∷ (dots 56, (0, (answer, (shown, (lent (numbers 7 8), tt))))) ↛ (56, fours (1 ∷ 2 ∷ 3 ∷ 4 ∷ 0 ∷ 2 ∷ 5 ∷ 4 ∷ 2 ∷ 7 ∷ 0 ∷ 8 ∷ 0 ∷ 9 ∷ []))  -- part_behind_the_elements
-      ∷ (dots 56, (0, (answer, (shown, (lent (numbers 7 8), tt))))) ↛ (48, fours (1 ∷ 2 ∷ 3 ∷ 4 ∷ 0 ∷ 2 ∷ 5 ∷ 4 ∷ 9 ∷ 2 ∷ 8 ∷ 0 ∷ []) ++ replicate 8 46)  -- elements_on_top
+module _ (κ κ₀ κ' κ'' : Lft) where
+  pub put_answer_not : RuledOut (put-answer.Pre (κ, (κ₀, (κ', (κ'', tt))))) (leaves (put-answer.Post (κ, (κ₀, (κ', (κ'', tt)))))) (
+      (pen 56 0, (answer, (shown, (lent (numbers 7 8), tt)))) ↛ (56, fours (2 ∷ 2 ∷ 3 ∷ 4 ∷ 0 ∷ 2 ∷ 5 ∷ 4 ∷ 9 ∷ 2 ∷ 7 ∷ 0 ∷ 8 ∷ 0 ∷ []))  -- place_for_number
+      ∷ (pen 56 0, (answer, (shown, (lent (numbers 7 8), tt)))) ↛ (56, fours (1 ∷ 2 ∷ 3 ∷ 4 ∷ 0 ∷ 1 ∷ 5 ∷ 4 ∷ 9 ∷ 2 ∷ 7 ∷ 0 ∷ 8 ∷ 0 ∷ []))  -- always_the_network
+      ∷ (pen 56 0, (answer, (shown, (lent (numbers 7 8), tt)))) ↛ (52, fours (1 ∷ 2 ∷ 3 ∷ 4 ∷ 0 ∷ 2 ∷ 5 ∷ 4 ∷ 2 ∷ 7 ∷ 0 ∷ 8 ∷ 0 ∷ []) ++ replicate 4 46)  -- part_left_out
+      ∷ (pen 56 0, (answer, (shown, (lent (numbers 7 8), tt)))) ↛ (56, fours (1 ∷ 2 ∷ 3 ∷ 4 ∷ 0 ∷ 2 ∷ 5 ∷ 4 ∷ 2 ∷ 7 ∷ 0 ∷ 8 ∷ 0 ∷ 9 ∷ []))  -- part_behind_the_elements
+      ∷ (pen 56 0, (answer, (shown, (lent (numbers 7 8), tt)))) ↛ (48, fours (1 ∷ 2 ∷ 3 ∷ 4 ∷ 0 ∷ 2 ∷ 5 ∷ 4 ∷ 9 ∷ 2 ∷ 8 ∷ 0 ∷ []) ++ replicate 8 46)  -- elements_on_top
       ∷ [])
   unfolding bytes_of head_of found_of part_of whose_of three_of elements_of little word_of
   put_answer_not = by_room (λ b. bytes_of b.0 b.1.0.now b.1.1.0.now) tt tt

@@ -9,7 +9,7 @@ use file::field::u16_at;
 use file::table::empty_board;
 use paper::Board;
 
-// What a case says of itself: the entry point that it asks, the room that it lends, the bytes of its first part and of its second.
+// What a case says of itself: the entry point that it asks, by its number as it was read, the room that it lends, the bytes of its first part and of its second.
 #[derive(Clone, Copy)]
 pub struct Case {
     pub entry: usize,
@@ -31,32 +31,24 @@ pub fn case_of(s: &[u8]) -> Case
     requires { length s.now ≡ 16 }
     ensures { result ≡ case_of s.now }
 {
-    let entry = u32_at(s, 0);
-    let room = u32_at(s, 4);
-    let first = u32_at(s, 8);
-    let second = u32_at(s, 12);
     Case {
-        entry,
-        room,
-        first,
-        second,
+        entry: u32_at(s, 0),
+        room: u32_at(s, 4),
+        first: u32_at(s, 8),
+        second: u32_at(s, 12),
     }
 }
 
-// The n boards that a case brings to be written, each as a board's record, and empty places behind them. Their marks are not looked at.
+// A table with places behind the n, since nothing is allocated: who calls lends the first n on. The n boards that a case brings to be written, each as a board's record, and empty places behind them. Their marks are not looked at.
 pub fn boards_of(s: &[u8], n: usize) -> [Board; 372]
     requires { (length s.now ≡ 44 * n) × (n ≤ 372) }
     ensures { result ≡ decoded (records n s.now) ++ replicate (372 - n) empty_board }
 {
-    let empty = empty_board();
-    let mut boards = [empty; 372];
-    let mut i: usize = 0;
-    while i < n {
+    let mut boards = [empty_board(); 372];
+    for i in 0..n {
         let a = 44 * i;
         let e = a + 44;
-        let b = board_of(&s[a..e]);
-        boards[i] = b;
-        i += 1;
+        boards[i] = board_of(&s[a..e]);
     }
     boards
 }
@@ -66,12 +58,9 @@ pub fn mark(buffer: &mut [i64])
     requires { length buffer.old ≤ 6400 }
     ensures { buffer.new ≡ marks (length buffer.old) }
 {
-    let mut i: usize = 0;
-    while i < buffer.len() {
-        let next = i + 1;
-        let m = 1000003 * next;
-        buffer[i] = m as i64;
-        i = next;
+    for (i, z) in buffer.iter_mut().enumerate() {
+        let m = 1000003 * (i + 1);
+        *z = m as i64;
     }
 }
 
@@ -79,10 +68,8 @@ pub fn mark(buffer: &mut [i64])
 pub fn mark_bytes(out: &mut [u8])
     ensures { out.new ≡ byte_marks (length out.old) }
 {
-    let mut i: usize = 0;
-    while i < out.len() {
+    for (i, b) in out.iter_mut().enumerate() {
         let m = (7 * (i % 256) + 3) % 256;
-        out[i] = m as u8;
-        i += 1;
+        *b = m as u8;
     }
 }

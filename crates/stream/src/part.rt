@@ -1,21 +1,21 @@
 // What answers of all kinds share: three numbers in a row, and the part that is shown.
-// Each `put_..` of this crate writes from a place on and returns the place behind.
 ghost use Rattle.std.specs.Prelude.{◌≡◌};
-ghost use Rattle.decimal.specs.Wrote.{Room, Wrote};
+ghost use Rattle.decimal.specs.Writing.{Fits, Writes};
 ghost use Rattle.stream.specs.Layout.{three_of, whose_of, part_of};
 
-use decimal::little::put_four;
+use decimal::Pen;
 use paper::{Lent, Part};
 
-pub(crate) fn put_three(out: &mut [u8], at: usize, a: u64, b: u64, c: u64) -> usize
-    requires { Room at (three_of a b c) out.old }
-    ensures { Wrote at (three_of a b c) out.old out.new result }
+pub(crate) fn put_three(pen: &mut Pen<'_>, a: u64, b: u64, c: u64)
+    requires { Fits (three_of a b c) pen.old }
+    ensures { Writes (three_of a b c) pen.old pen.new }
 {
-    let second = put_four(out, at, a);
-    let third = put_four(out, second, b);
-    put_four(out, third, c)
+    pen.little::<4>(a);
+    pen.little::<4>(b);
+    pen.little::<4>(c);
 }
 
+// A table of the layout. A `From` cannot stand here: neither type is this crate's.
 fn whose(lent: Lent) -> u64
     ensures { result ≡ whose_of lent }
 {
@@ -26,11 +26,9 @@ fn whose(lent: Lent) -> u64
     }
 }
 
-pub(crate) fn put_part(out: &mut [u8], at: usize, part: Part) -> usize
-    requires { Room at (part_of part) out.old }
-    ensures { Wrote at (part_of part) out.old out.new result }
+pub(crate) fn put_part(pen: &mut Pen<'_>, part: Part)
+    requires { Fits (part_of part) pen.old }
+    ensures { Writes (part_of part) pen.old pen.new }
 {
-    let lent = part.whose;
-    let w = whose(lent);
-    put_three(out, at, w, part.start as u64, part.len as u64)
+    put_three(pen, whose(part.whose), part.start as u64, part.len as u64);
 }

@@ -10,6 +10,7 @@ pub mod Cancel
 -- bounds
 pub mod Within
 pub mod Operands
+mod Products
 -- wrong answers, ruled out by a contract
 pub mod Told
 mod RuledOut

@@ -1,7 +1,9 @@
 // The number: x0 + x1 t + x2 t² + x3 t³ with whole coordinates, t a turn of 30 degrees forward.
-// Every impedance, current and voltage above this crate is one; specs/ says what each operation means. The operations themselves
+// Every impedance, current and voltage above this crate is one; specs/ says what each operation means. The operators are in `arithmetic`; conjugate, square and turns
 // are in `phasor`, so that a crate that only names numbers stands on none of them.
 #![tactic(auto)]
+
+mod arithmetic;
 
 ghost use Rattle.std.specs.Prelude.{◌≡◌};
 ghost use Rattle.turn.specs.Number.{whole_n, complex_n, one_n, j_n, a_n, a2_n};

@@ -3,6 +3,7 @@ use mathlib.Core.List.{List, [], ◌∷◌}
 use Prim.Native.Nat.{ℕ, ◌+◌}
 use native.Mathlib.Omega.{arith}
 use base.Fml.{Lft}
+use Rattle.std.specs.Prelude.{Ok, Err}
 use denote.Ref.{Bor}
 use Rattle.paper.specs.declared.Lent.TheVariants.{NetworkBytes, FaultBytes, LabelBytes}
 use Rattle.paper.specs.declared.Part.{Part}
@@ -11,7 +12,7 @@ use Rattle.paper.specs.declared.Answer.{Answer}
 use Rattle.paper.specs.Bytes.{part, cut}
 use Rattle.paper.specs.Refusal.{the_record}
 use Rattle.paper.specs.Answer.{refused}
-use Rattle.paper.specs.declared.EarthReturn.TheVariants.{Stopped, Refused}
+use Rattle.paper.specs.declared.EarthReturn.TheVariants.{Stopped}
 use Rattle.paper.specs.Return.{said}
 use Rattle.paper.proofs.Compare.{ordinal}
 use Rattle.lemmas.proofs.RuledOut.{◌↛◌, RuledOut, ever, by, by_equation, list}
@@ -61,9 +62,9 @@ pub accepted_not : RuledOut (accepted.Pre tt) (ever (accepted.Post tt)) (
 accepted_not = by_equation (λ a. answer a.0 (the_record a.1.0) a.1.0 a.1.1.0 0) fields (λ a z e s. s) (omega arith, (omega arith, tt)) tt
 
 pub part_said_not : RuledOut (part-said.Pre tt) (ever (part-said.Post tt)) (
-    (Refused why, tt) ↛ part NetworkBytes 0 0  -- refusal_shows_nothing
-    ∷ (Refused why, tt) ↛ part FaultBytes 0 7  -- refusal_shows_all_before
-    ∷ (Stopped 2, tt) ↛ part NetworkBytes 52 44  -- answer_shows_the_record
+    (Err why, tt) ↛ part NetworkBytes 0 0  -- refusal_shows_nothing
+    ∷ (Err why, tt) ↛ part FaultBytes 0 7  -- refusal_shows_all_before
+    ∷ (Ok (Stopped 2), tt) ↛ part NetworkBytes 52 44  -- answer_shows_the_record
     ∷ [])
 unfolding said
 part_said_not = by_equation (λ a. part_said (said a.0).shown) (λ p. list (ordinal p.whose ∷ p.start ∷ p.len ∷ [])) (λ a z e s. s) (tt, (tt, (tt, tt))) tt

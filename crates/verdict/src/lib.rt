@@ -14,10 +14,9 @@ use paper::{Answer, Lent, Part, Refusal};
 pub fn refused(why: Refusal) -> Answer
     ensures { result ≡ refused why }
 {
-    let part = why.part;
     Answer {
         amps: 0,
-        part,
+        part: why.part,
         place: why.place,
         n: 0,
         number: why.number,
@@ -29,16 +28,13 @@ pub fn accepted(amps: u64, k: u16, n: u16) -> Answer
     requires { 1 ≤ k }
     ensures { result ≡ record { amps = amps; part = the_record k; place = k; n = n; number = 0 } }
 {
-    let i = k as usize - 1;
-    let start = 8 + 44 * i;
-    let part = Part {
-        whose: Lent::NetworkBytes,
-        start,
-        len: 44,
-    };
     Answer {
         amps,
-        part,
+        part: Part {
+            whose: Lent::NetworkBytes,
+            start: 8 + 44 * (usize::from(k) - 1),
+            len: 44,
+        },
         place: k,
         n,
         number: 0,

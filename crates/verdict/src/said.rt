@@ -3,20 +3,14 @@ ghost use Rattle.std.specs.Prelude.{◌≡◌};
 ghost use Rattle.paper.specs.Return.{said};
 ghost use Rattle.verdict.specs.Said.{part_said};
 
-use paper::{EarthReturn, Lent, Part};
+use paper::{EarthReturn, Part, Refusal};
 
 // The part: a refusal's. An answer shows none of the bytes.
-pub fn part_said(given: EarthReturn) -> Part
+pub fn part_said(given: Result<EarthReturn, Refusal>) -> Part
     ensures { result ≡ part_said (said given).shown }
 {
-    let nothing = Part {
-        whose: Lent::NetworkBytes,
-        start: 0,
-        len: 0,
-    };
     match given {
-        EarthReturn::From(_) => nothing,
-        EarthReturn::Stopped(_) => nothing,
-        EarthReturn::Refused(why) => why.part,
+        Ok(_) => Part::NONE,
+        Err(why) => why.part,
     }
 }

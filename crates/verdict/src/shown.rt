@@ -8,12 +8,10 @@ pub fn shown<'a>(net: &'a [u8], asked: &'a [u8], part: Part) -> &'a [u8]
     requires { Within part net.now asked.now }
     ensures { IsPart (lent part.whose net.entry asked.entry) part.start part.len result }
 {
-    let whose = part.whose;
-    let a = part.start;
-    let e = a + part.len;
-    match whose {
-        Lent::NetworkBytes => &net[a..e],
-        Lent::FaultBytes => &asked[a..e],
-        Lent::LabelBytes => &asked[a..e],
+    let end = part.start + part.len;
+    match part.whose {
+        Lent::NetworkBytes => &net[part.start..end],
+        Lent::FaultBytes => &asked[part.start..end],
+        Lent::LabelBytes => &asked[part.start..end],
     }
 }

@@ -29,11 +29,8 @@ fn put(out: &mut [i64], v: [i64; 4])
     requires { length out.old ≡ 4 }
     ensures { out.new ≡ four_of v }
 {
-    let mut k: usize = 0;
-    while k < 4 {
-        let t = v[k];
-        out[k] = t;
-        k += 1;
+    for k in 0..4 {
+        out[k] = v[k];
     }
 }
 
@@ -42,6 +39,5 @@ pub fn fill(out: &mut [i64], a: usize, v: [i64; 4])
     requires { (a < 1000) × (a + 4 ≤ length out.old) }
     ensures { out.new ≡ over a (four_of v) out.old }
 {
-    let e = a + 4;
-    put(&mut out[a..e], v);
+    put(&mut out[a..a + 4], v);
 }

@@ -10,6 +10,7 @@ use lib.Dec.{leb}
 use lib.ListN.{length, take, drop}
 use lib.Seq.{take_all, take-append-add, length-take-le}
 use borrow.Author.Tests.{lt-ltb, le-ltb, le-leb, lt-leb, not-false}
+use Rattle.std.specs.Prelude.{Ok, Err}
 use Rattle.lemmas.specs.Over.{over}
 use Rattle.lemmas.proofs.Over.{over_front}
 use Rattle.paper.specs.declared.Head.{Head}
@@ -150,20 +151,20 @@ module _ {volts unit n : ℕ} {page later : List ℕ} (h : HeadPut volts unit n 
 
   module _ (room : ℕ) (l : Label) {j : Judged} (j-is : j ≡ judgement file l) where
     -- a board's own
-    pub wrong_board : (j.number ≡ 0 → ⊥) → Refuses volts unit n room page (because j.number j.place)
+    pub wrong_board : {w : Refusal} → j.outcome ≡ Err w → Refuses volts unit n room page (because w.number w.place)
     unfolding unshown ◌then◌
-    wrong_board f bs g = by_file bs g room (first_broken file l j-is f)
+    wrong_board is bs g = by_file bs g room (first_broken file l j-is is)
 
-    only_room : j.number ≡ 0 → (bs : Boards) → OnPage bs n page → write_refusal volts unit bs room ≡ first (room_rows n room)
+    only_room : j.outcome ≡ Ok tt → (bs : Boards) → OnPage bs n page → write_refusal volts unit bs room ≡ first (room_rows n room)
     unfolding unshown ◌then◌
     only_room z bs g = by_file bs g room (records-kept file l j-is z)
 
     -- 20
-    pub no_room : j.number ≡ 0 → room < 8 + 44 * n → Refuses volts unit n room page (because 20 0)
+    pub no_room : j.outcome ≡ Ok tt → room < 8 + 44 * n → Refuses volts unit n room page (because 20 0)
     unfolding first
     no_room z s bs g = only_room z bs g ∙ rw (lt-ltb room (file_size n) s) refl
 
-    pub all_kept : j.number ≡ 0 → 8 + 44 * n ≤ room → (bs : Boards) → OnPage bs n page → write_refusal volts unit bs room ≡ none
+    pub all_kept : j.outcome ≡ Ok tt → 8 + 44 * n ≤ room → (bs : Boards) → OnPage bs n page → write_refusal volts unit bs room ≡ none
     unfolding first
     all_kept z s bs g = only_room z bs g ∙ rw (le-ltb room (file_size n) s) refl
 

@@ -5,7 +5,7 @@ use Prim.Native.Nat.{ℕ, min, ◌+◌, ◌*◌, ◌≤◌, ◌<◌}
 use native.Mathlib.Numerals.{add-one}
 use native.Mathlib.Omega.{arith}
 use lib.ListN.{length, take, drop, get_or, length-take, drop_of_length-le}
-use lib.Seq.{slice-cons, take-take, take_all, take_at, drop_at, length-take-le}
+use lib.Seq.{drop-cons, take-take, take_all, take_at, drop_at, length-take-le}
 use Rattle.paper.specs.declared.Head.{Head}
 use Rattle.paper.specs.declared.Board.{Board}
 use Rattle.paper.specs.Chain.{Boards}
@@ -13,15 +13,17 @@ use Rattle.paper.specs.File.{HD, BD}
 use Rattle.paper.specs.Write.{u16_bytes, ohms_bytes, head_bytes, board_bytes, boards_bytes}
 use Rattle.lemmas.specs.Over.{over}
 use Rattle.decimal.specs.Wrote.{Room, Wrote}
-use Rattle.decimal.proofs.Writes.{Left, left_two}
+use Rattle.decimal.specs.declared.Pen.{Pen}
+use Rattle.decimal.specs.Writing.{Writes}
+use Rattle.decimal.proofs.Pens.{Left, left_two}
 use Rattle.writer.specs.OnPage.{OnPage}
 use Rattle.writer.specs.RoundTrip.{AllTyped}
 use Rattle.writer.proofs.File.{boards_long}
 use Rattle.writer.proofs.InType.{all_take}
 
 -- ---- four pieces more of a text that is written piece by piece
-pub left_four : {at p0 p1 p2 p3 p4 : ℕ} {s o t1 t2 t3 t4 u o0 o1 o2 o3 o4 : List ℕ} → Left at s o p0 (t1 ++ (t2 ++ (t3 ++ (t4 ++ u)))) o0
-    → Wrote p0 t1 o0 o1 p1 → Wrote p1 t2 o1 o2 p2 → Wrote p2 t3 o2 o3 p3 → Wrote p3 t4 o3 o4 p4 → Left at s o p4 u o4
+pub left_four : {pen p0 p1 p2 p3 p4 : Pen} {s t1 t2 t3 t4 u : List ℕ} → Left pen s p0 (t1 ++ (t2 ++ (t3 ++ (t4 ++ u)))) → Writes t1 p0 p1 → Writes t2 p1 p2 → Writes t3 p2 p3 → Writes t4 p3 p4
+    → Left pen s p4 u
 left_four l w1 w2 w3 w4 = left_two (left_two l w1 w2) w3 w4
 
 -- ---- a head, and a board
@@ -35,15 +37,22 @@ pub board_pieces : (b : Board)
 unfolding board_bytes
 board_pieces b = refl
 
--- ---- the first n boards of a table, from the first that is left on
-module _ (bs : Boards) (n : ℕ) where
-  pub next_board : (i : ℕ) (d : Board) → i < n → n ≤ length bs → boards_bytes (drop i (take n bs)) ≡ board_bytes (get_or bs i d) ++ boards_bytes (drop (i + 1) (take n bs))
-  unfolding boards_bytes
-  next_board i d h l = ap boards_bytes (slice-cons i n bs d h l) ∙ ap (λ (m : ℕ). board_bytes (get_or bs i d) ++ boards_bytes (drop m (take n bs))) (sym (add-one i))
+-- ---- a label, from the first byte that is left on
+pub next_letter : (l : List ℕ) (i : ℕ) → i < length l → drop i l ≡ (get_or l i 0 ∷ []) ++ drop (i + 1) l
+next_letter l i h = drop-cons l i 0 h ∙ ap (λ (m : ℕ). get_or l i 0 ∷ drop m l) (sym (add-one i))
 
-  pub no_board_lem : (i : ℕ) → n ≤ i → boards_bytes (drop i (take n bs)) ≡ []
+pub no_letter : (l : List ℕ) (i : ℕ) → length l ≤ i → drop i l ≡ []
+no_letter l i h = drop_of_length-le l h
+
+-- ---- boards, from the first that is left on
+module _ (bs : Boards) where
+  pub next_board : (i : ℕ) (d : Board) → i < length bs → boards_bytes (drop i bs) ≡ board_bytes (get_or bs i d) ++ boards_bytes (drop (i + 1) bs)
   unfolding boards_bytes
-  no_board_lem i h = ap boards_bytes (drop_of_length-le (take n bs) {i = i} (omega (arith, length-take n bs)))
+  next_board i d h = ap boards_bytes (drop-cons bs i d h) ∙ ap (λ (m : ℕ). board_bytes (get_or bs i d) ++ boards_bytes (drop m bs)) (sym (add-one i))
+
+  pub no_board_lem : (i : ℕ) → length bs ≤ i → boards_bytes (drop i bs) ≡ []
+  unfolding boards_bytes
+  no_board_lem i h = ap boards_bytes (drop_of_length-le bs h)
 
 -- the first 256 boards are the first of as many as there are, at most
 pub first_256 : (bs : Boards) {n : ℕ} → n ≡ min 256 (length bs) → take n bs ≡ take 256 bs

@@ -1,14 +1,15 @@
--- What each contract of this crate rules out: a call that it allows, and an answer that it does not. The rows of `write` are said of its caller `write_first`, which has the same contract, and so are those of `put_boards`, whose boards `write` writes. Assumes nothing.
+-- What each contract of this crate rules out: a call that it allows, and an answer that it does not. The rows of `put_boards` are said of `write`, which writes its boards. Assumes nothing.
 use mathlib.Core.Bool.{false, true≢false}
 use mathlib.Core.List.{List, [], ◌∷◌, ◌++◌}
 use mathlib.Core.Path.{◌≡◌, refl, sym, ◌∙◌}
 use Prim.Native.Nat.{ℕ, min}
-use lib.Dec.{T, eqb, leb, leb→le, lit≤}
+use lib.Dec.{T, eqb, leb, leb→le}
 use lib.ListN.{length, take, replicate}
 use borrow.Author.Tests.{eq-eqb}
 use base.Fml.{Lft}
+use denote.Bor.{Bor}
 use denote.MutBor.{MutBor}
-use Rattle.lemmas.proofs.RuledOut.{◌↛◌, RuledOut, ever, ends, by, by_equation, list, lent_out}
+use Rattle.lemmas.proofs.RuledOut.{◌↛◌, RuledOut, ever, ends, by, by_equation, list, lent, lent_out}
 use Rattle.paper.specs.declared.Board.{Board}
 use Rattle.paper.specs.declared.Head.{Head}
 use Rattle.paper.specs.declared.Written.{Written}
@@ -17,15 +18,14 @@ use Rattle.paper.specs.Kind.{ohms}
 use Rattle.paper.specs.Refusal.{no_part}
 use Rattle.paper.specs.Answer.{paper}
 use Rattle.paper.specs.Write.{head_bytes, board_bytes, write_verdict, write_leaves, write_open}
-use Rattle.decimal.proofs.Told.{leaves, by_room}
+use Rattle.decimal.proofs.Told.{pen, leaves, by_room}
 use Rattle.paper.proofs.Typed.{head, bd, board, typed_open}
 use Rattle.writer.specs.OnPage.{OnPage}
 use Rattle.writer.proofs.lay.at_most_256.Reads as at_most_256
 use Rattle.writer.proofs.lay.put_board.Reads as put-board
 use Rattle.writer.proofs.lay.put_head.Reads as put-head
-use Rattle.writer.proofs.page.blank.Reads as blank
 use Rattle.writer.proofs.page.write_page.Reads as write-page
-use Rattle.writer.proofs.lend.write_first.Reads as write-first
+use Rattle.writer.proofs.write.Reads as write
 
 -- ---- a source, 372 times; its file; a buffer of n dots
 abbrev gen : Board
@@ -65,13 +65,13 @@ bd_without = bd "HALL" "GEN" 4 11 (ohms 0 0) (ohms 0 0) (ohms 0 20) (ohms 0 0)
 
 -- ---- a call with n boards and a buffer, and its answer
 abbrev Call : Type 0
-Call = ℕ × (ℕ × (ℕ × (List Board × (MutBor (List ℕ) × Unit {0}))))
+Call = ℕ × (ℕ × (Bor (List Board) × (MutBor (List ℕ) × Unit {0})))
 
 abbrev given : ℕ → List ℕ → Call
-given n out = (230, (1000, (n, (boards, (lent_out out, tt)))))
+given n out = (230, (1000, (lent (take n boards), (lent_out out, tt))))
 
 abbrev given_two : List Board → List ℕ → Call
-given_two bs out = (230, (1000, (2, (bs, (lent_out out, tt)))))
+given_two bs out = (230, (1000, (lent (take 2 bs), (lent_out out, tt))))
 
 abbrev said : ℕ → ℕ → ℕ → Written
 said number place len = record { part = no_part; len = len; place = place; number = number }
@@ -83,19 +83,13 @@ abbrev told : Written → List ℕ → ℕ
 told w later = list (w.number ∷ w.place ∷ w.len ∷ later)
 
 abbrev right : Call → ℕ
-right a = let bs = take a.1.1.0 a.1.1.1.0 in let out = a.1.1.1.1.0.now in told (write_verdict a.0 a.1.0 bs (length out)) (write_leaves a.0 a.1.0 bs out)
+right a = let bs = a.1.1.0.now in let out = a.1.1.1.0.now in told (write_verdict a.0 a.1.0 bs (length out)) (write_leaves a.0 a.1.0 bs out)
 
 pub at_most_256_not : RuledOut (at_most_256.Pre tt) (ever (at_most_256.Post tt)) (
     (256, tt) ↛ 255  -- page_of_255
     ∷ (257, tt) ↛ 257  -- page_of_257
     ∷ [])
 at_most_256_not = by_equation (λ a. min 256 a.0) (λ n. n) (λ a z e s. s) (tt, (tt, tt)) tt
-
-pub blank_not : RuledOut (blank.Pre tt) (ever (blank.Post tt)) (
-    tt ↛ replicate 11271 0  -- page_a_byte_short
-    ∷ tt ↛ replicate 11228 0  -- page_of_255_boards
-    ∷ [])
-blank_not = by length (λ a. 11272) (λ a z s. s.1) (tt, (tt, tt)) tt
 
 -- a board and a head laid down, with their fields in another order
 abbrev hall : Board
@@ -108,26 +102,27 @@ said_head = record { volts = 230; unit = 1000; boards = 3 }
 abbrev small : Board
 small = board "hall" "gen" 3 0 (ohms 1 2) (ohms 1 2) (ohms 3 4) (ohms 5 6)
 
-module _ (κ : Lft) where
-  pub put_board_not : RuledOut (put-board.Pre (κ, tt)) (leaves (put-board.Post (κ, tt))) (
-      (lent_out (dots 44), (0, (hall, tt))) ↛ (44, bd "GEN" "HALL" 3 0 (ohms 1 2) (ohms 1 2) (ohms 3 4) (ohms 5 6))  -- feeder_for_label
-      ∷ (lent_out (dots 44), (0, (hall, tt))) ↛ (44, bd "HALL" "GEN" 3 0 (ohms 1 2) (ohms 1 2) (ohms 5 6) (ohms 3 4))  -- zn_for_z0
-      ∷ (lent_out (dots 44), (0, (hall, tt))) ↛ (44, bd "HALL" "GEN" 0 3 (ohms 1 2) (ohms 1 2) (ohms 3 4) (ohms 5 6))  -- clock_for_kind
-      ∷ (lent_out (dots 44), (0, (small, tt))) ↛ (44, bd "HALL" "gen" 3 0 (ohms 1 2) (ohms 1 2) (ohms 3 4) (ohms 5 6))  -- label_in_capitals
-      ∷ (lent_out (dots 44), (0, (small, tt))) ↛ (44, bd "hall" "GEN" 3 0 (ohms 1 2) (ohms 1 2) (ohms 3 4) (ohms 5 6))  -- feeder_in_capitals
+module _ (κ κ₀ : Lft) where
+  pub put_board_not : RuledOut (put-board.Pre (κ, (κ₀, tt))) (leaves (put-board.Post (κ, (κ₀, tt)))) (
+      (pen 44 0, (hall, tt)) ↛ (44, bd "GEN" "HALL" 3 0 (ohms 1 2) (ohms 1 2) (ohms 3 4) (ohms 5 6))  -- feeder_for_label
+      ∷ (pen 44 0, (hall, tt)) ↛ (44, bd "HALL" "GEN" 3 0 (ohms 1 2) (ohms 1 2) (ohms 5 6) (ohms 3 4))  -- zn_for_z0
+      ∷ (pen 44 0, (hall, tt)) ↛ (44, bd "HALL" "GEN" 0 3 (ohms 1 2) (ohms 1 2) (ohms 3 4) (ohms 5 6))  -- clock_for_kind
+      ∷ (pen 44 0, (small, tt)) ↛ (44, bd "HALL" "gen" 3 0 (ohms 1 2) (ohms 1 2) (ohms 3 4) (ohms 5 6))  -- label_in_capitals
+      ∷ (pen 44 0, (small, tt)) ↛ (44, bd "hall" "GEN" 3 0 (ohms 1 2) (ohms 1 2) (ohms 3 4) (ohms 5 6))  -- feeder_in_capitals
       ∷ [])
   unfolding write_open typed_open
   put_board_not = by_room (λ b. board_bytes b.0) tt tt
 
-  pub put_head_not : RuledOut (put-head.Pre (κ, tt)) (leaves (put-head.Post (κ, tt))) (
-      (lent_out (dots 8), (0, (said_head, tt))) ↛ (8, head 1000 230 3)  -- unit_for_volts
-      ∷ (lent_out (dots 8), (0, (said_head, tt))) ↛ (8, head 230 3 1000)  -- boards_for_unit
-      ∷ (lent_out (dots 9), (0, (said_head, tt))) ↛ (8, head 230 1000 3 ++ (0 ∷ []))  -- byte_behind_the_head_cleared
+  pub put_head_not : RuledOut (put-head.Pre (κ, (κ₀, tt))) (leaves (put-head.Post (κ, (κ₀, tt)))) (
+      (pen 8 0, (said_head, tt)) ↛ (8, head 1000 230 3)  -- unit_for_volts
+      ∷ (pen 8 0, (said_head, tt)) ↛ (8, head 230 3 1000)  -- boards_for_unit
+      ∷ (pen 9 0, (said_head, tt)) ↛ (8, head 230 1000 3 ++ (0 ∷ []))  -- byte_behind_the_head_cleared
       ∷ [])
   unfolding write_open typed_open
   put_head_not = by_room (λ b. head_bytes b.0) tt tt
 
-  pub write_first_not : RuledOut (write-first.Pre (κ, tt)) (ends (write-first.Post (κ, tt))) (
+module _ (κ κ' : Lft) where
+  pub write_not : RuledOut (write.Pre (κ, (κ', tt))) (ends (write.Post (κ, (κ', tt)))) (
       given 1 (dots 52) ↛ answer 1 (said 0 0 0) (file 230 1000)  -- length_not_said
       ∷ given 1 (dots 52) ↛ answer 1 (said 0 0 52) (file 1000 230)  -- volts_and_unit_exchanged
       ∷ given 1 (dots 53) ↛ answer 1 (said 0 0 52) (file 230 1000 ++ (0 ∷ []))  -- byte_behind_cleared
@@ -146,9 +141,9 @@ module _ (κ : Lft) where
       ∷ given_two without_z1 (dots 0) ↛ answer 2 (said 20 0 0) (dots 0)  -- twenty_before_twenty_one
       ∷ [])
   unfolding paper write_open typed_open
-  write_first_not =
-      by (λ z. told z.0 z.1.1.1.1.1.0.now) right (λ a z s i. told (s.0 i) (s.1 i))
-      (lit≤ tt, (lit≤ tt, (lit≤ tt, (lit≤ tt, (lit≤ tt, (lit≤ tt, (lit≤ tt, (lit≤ tt, (lit≤ tt, (lit≤ tt, (lit≤ tt, (lit≤ tt, (lit≤ tt, (lit≤ tt, (lit≤ tt, (lit≤ tt, tt)))))))))))))))) tt
+  write_not =
+      by (λ z. told z.0 z.1.1.1.1.0.now) right (λ a z s i. told (s.0 i) (s.1 i))
+      (tt, (tt, (tt, (tt, (tt, (tt, (tt, (tt, (tt, (tt, (tt, (tt, (tt, (tt, (tt, (tt, tt)))))))))))))))) tt
 
 -- ---- a page with one board's record. Its contract is said of any boards that the page holds, so each row is denied by what it says of that one
 abbrev page : List ℕ

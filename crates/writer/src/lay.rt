@@ -1,61 +1,55 @@
 // The file's bytes, laid down in the lent buffer.
-// Each `put_..` writes from a place on and returns the place behind.
 ghost use Rattle.std.specs.Prelude.{◌≡◌, min, take};
 ghost use Rattle.paper.specs.Write.{ohms_bytes, head_bytes, board_bytes, boards_bytes};
 ghost use Rattle.decimal.specs.Wrote.{Room, Wrote};
+ghost use Rattle.decimal.specs.Writing.{Fits, Writes};
 ghost use Rattle.writer.specs.RoundTrip.{Typed, AllTyped};
 
-use decimal::little::put_two;
-use decimal::{put_byte, put_bytes};
+use decimal::Pen;
 use file::field::{BD, HD};
 use paper::{Board, Head, Ohms};
 
-fn put_ohms(out: &mut [u8], at: usize, z: Ohms) -> usize
-    requires { Room at (ohms_bytes z) out.old }
-    ensures { Wrote at (ohms_bytes z) out.old out.new result }
+fn put_ohms(pen: &mut Pen<'_>, z: Ohms)
+    requires { Fits (ohms_bytes z) pen.old }
+    ensures { Writes (ohms_bytes z) pen.old pen.new }
 {
-    let a = put_two(out, at, z.r);
-    put_two(out, a, z.x)
+    pen.little::<2>(z.r as u64);
+    pen.little::<2>(z.x as u64);
 }
 
-// Lent whole: a copy of known length becomes two stores.
-fn put_label(out: &mut [u8], at: usize, l: [u8; 12]) -> usize
-    requires { Room at l out.old }
-    ensures { Wrote at l out.old out.new result }
+// A byte a turn, as many as are known where this is compiled: they become wide stores. `bytes` was tried: it asks at run time whether the two overlap, 50 instructions a board for 12.
+fn put_label(pen: &mut Pen<'_>, l: [u8; 12])
+    requires { Fits l pen.old }
+    ensures { Writes l pen.old pen.new }
 {
-    put_bytes(out, at, &l)
+    for b in l {
+        pen.byte(b);
+    }
 }
 
-// The labels and impedances are bound before anything is written: a call takes no field that is an array or a struct.
-pub(crate) fn put_board(out: &mut [u8], at: usize, b: Board) -> usize
-    requires { Room at (board_bytes b) out.old }
-    ensures { Wrote at (board_bytes b) out.old out.new result }
+pub(crate) fn put_board(pen: &mut Pen<'_>, b: Board)
+    requires { Fits (board_bytes b) pen.old }
+    ensures { Writes (board_bytes b) pen.old pen.new }
 {
-    let label = b.label;
-    let feeder = b.feeder;
-    let z1 = b.z1;
-    let z2 = b.z2;
-    let z0 = b.z0;
-    let zn = b.zn;
-    let p = put_two(out, at, BD);
-    let p1 = put_label(out, p, label);
-    let p2 = put_label(out, p1, feeder);
-    let p3 = put_byte(out, p2, b.kind);
-    let p4 = put_byte(out, p3, b.clock);
-    let p5 = put_ohms(out, p4, z1);
-    let p6 = put_ohms(out, p5, z2);
-    let p7 = put_ohms(out, p6, z0);
-    put_ohms(out, p7, zn)
+    pen.little::<2>(BD as u64);
+    put_label(pen, b.label);
+    put_label(pen, b.feeder);
+    pen.byte(b.kind);
+    pen.byte(b.clock);
+    put_ohms(pen, b.z1);
+    put_ohms(pen, b.z2);
+    put_ohms(pen, b.z0);
+    put_ohms(pen, b.zn);
 }
 
-pub(crate) fn put_head(out: &mut [u8], at: usize, h: Head) -> usize
-    requires { Room at (head_bytes h) out.old }
-    ensures { Wrote at (head_bytes h) out.old out.new result }
+pub(crate) fn put_head(pen: &mut Pen<'_>, h: Head)
+    requires { Fits (head_bytes h) pen.old }
+    ensures { Writes (head_bytes h) pen.old pen.new }
 {
-    let a = put_two(out, at, HD);
-    let b = put_two(out, a, h.volts);
-    let c = put_two(out, b, h.unit);
-    put_two(out, c, h.boards)
+    pen.little::<2>(HD as u64);
+    pen.little::<2>(h.volts as u64);
+    pen.little::<2>(h.unit as u64);
+    pen.little::<2>(h.boards as u64);
 }
 
 // As many as a page has places for.
@@ -74,25 +68,20 @@ fn typed(b: Board)
 pub(crate) fn typed_boards(boards: &[Board])
     ensures { AllTyped boards.now }
 {
-    let mut i: usize = 0;
-    while i < boards.len() {
-        typed(boards[i]);
-        i += 1;
+    for b in boards {
+        typed(*b);
     }
 }
 
-// A board a turn, straight from the boards lent. Of more than 256 the rest is left: their count alone refuses them.
-pub(crate) fn put_boards(out: &mut [u8], at: usize, boards: &[Board]) -> usize
-    requires { Room at (boards_bytes (take 256 boards.now)) out.old }
-    ensures { Wrote at (boards_bytes (take 256 boards.now)) out.old out.new result }
+// A board a turn, straight from the boards lent, behind room for a head. Of more than 256 the rest is left: their count alone refuses them.
+pub(crate) fn put_boards(page: &mut [u8], boards: &[Board]) -> usize
+    requires { Room 8 (boards_bytes (take 256 boards.now)) page.old }
+    ensures { Wrote 8 (boards_bytes (take 256 boards.now)) page.old page.new result }
 {
     let n = at_most_256(boards.len());
-    let mut end = at;
-    let mut i: usize = 0;
-    while i < n {
-        let b = boards[i];
-        end = put_board(out, end, b);
-        i += 1;
+    let mut pen = Pen { out: page, at: 8 };
+    for b in &boards[..n] {
+        put_board(&mut pen, *b);
     }
-    end
+    pen.at
 }

@@ -2,14 +2,13 @@
 #![tactic(auto)]
 
 mod lay;
-pub mod lend;
 mod page;
 
 ghost use Rattle.std.specs.Prelude.{◌≡◌, length};
 ghost use Rattle.paper.specs.Write.{write_verdict, write_leaves};
 
 use crate::lay::{put_boards, typed_boards};
-use crate::page::{blank, write_page};
+use crate::page::write_page;
 use paper::{Board, Written};
 
 // The entry point. Any numbers, any boards, any buffer; nothing is written until all is judged.
@@ -19,8 +18,8 @@ pub fn write(volts: u16, unit: u16, boards: &[Board], out: &mut [u8]) -> Written
 {
     let n = boards.len();
     typed_boards(boards);
-    // One page, lent to both: the boards lie on it straight from the caller's, and no table of them is made.
-    let mut file = blank();
-    put_boards(&mut file, 8, boards);
+    // One page of room for the longest file, 8 + 44 * 256, lent to both: the boards lie on it straight from the caller's, and no table of them is made.
+    let mut file = [0; 11272];
+    put_boards(&mut file, boards);
     write_page(volts, unit, n, &mut file, out)
 }

@@ -2,46 +2,53 @@
 ghost use Rattle.std.specs.Prelude.{◌≡◌, min, length};
 ghost use Rattle.paper.specs.Chain.{Boards};
 ghost use Rattle.paper.specs.Refusal.{no_part};
-ghost use Rattle.paper.specs.Write.{write_verdict, write_leaves};
+ghost use Rattle.paper.specs.Write.{head_bytes, write_verdict, write_leaves};
+ghost use Rattle.decimal.specs.Wrote.{Room, Wrote};
 ghost use Rattle.writer.specs.OnPage.{OnPage};
 
 use crate::lay::put_head;
-use decimal::put_bytes;
+use decimal::Pen;
 use file::field::SPACE;
 use file::head::head_wrong;
-use node::NUMBERS;
-use paper::{Head, Lent, Part, Written};
+use node::Node;
+use paper::{Head, Part, Rule, Written};
 use records::judge;
 
 // N as a head says it. More boards than it can say are too many as the most that it can say are (3).
 fn said(n: usize) -> u16
     ensures { result ≡ min 65535 n }
 {
-    if n < 65535 { n as u16 } else { 65535 }
+    u16::try_from(n).unwrap_or(u16::MAX)
 }
 
 // No bytes were tested, so the part is empty.
 fn answered(number: u8, place: u16, len: usize) -> Written
     ensures { result ≡ record { part = no_part; len = len; place = place; number = number } }
 {
-    let part = Part {
-        whose: Lent::NetworkBytes,
-        start: 0,
-        len: 0,
-    };
     Written {
-        part,
+        part: Part::NONE,
         len,
         place,
         number,
     }
 }
 
-// Room for the longest file, 8 + 44 * 256. The contract gives only its length, which lending needs: the bytes spelled out would be 11272 terms.
-pub(crate) fn blank() -> [u8; 11272]
-    ensures { length result ≡ 11272 }
+// The head, at the front of the page.
+fn lay_head(page: &mut [u8], head: Head) -> usize
+    requires { Room 0 (head_bytes head) page.old }
+    ensures { Wrote 0 (head_bytes head) page.old page.new result }
 {
-    [0; 11272]
+    let mut pen = Pen { out: page, at: 0 };
+    put_head(&mut pen, head);
+    pen.at
+}
+
+// The file, at the front of the output.
+fn copy_out(out: &mut [u8], file: &[u8])
+    requires { Room 0 file.now out.old }
+    ensures { Wrote 0 file.now out.old out.new (length file.now) }
+{
+    out[..file.len()].copy_from_slice(file);
 }
 
 // n boards were given; the page has the records of the first 256 of them, behind room for a head. The contract is said of whatever boards the page holds.
@@ -63,21 +70,19 @@ pub(crate) fn write_page(
         boards: count,
     };
     if head_wrong(head) {
-        return answered(3, 0, 0);
+        return answered(Rule::HeadValues.number(), 0, 0);
     }
-    put_head(file, 0, head);
+    lay_head(file, head);
     let len = 8 + 44 * n;
-    let mut nodes = [[0u16; NUMBERS]; 256];
+    let mut nodes = [Node::NONE; 256];
     let nobody = [SPACE; 12];
     let judged = judge(&file[..len], n, nobody, &mut nodes);
-    let number = judged.number;
-    let place = judged.place;
-    if number != 0 {
-        return answered(number, place, 0);
+    if let Err(why) = judged.outcome {
+        return answered(why.number, why.place, 0);
     }
     if out.len() < len {
-        return answered(20, 0, 0);
+        return answered(Rule::ShortOutput.number(), 0, 0);
     }
-    put_bytes(out, 0, &file[..len]);
+    copy_out(out, &file[..len]);
     answered(0, 0, len)
 }

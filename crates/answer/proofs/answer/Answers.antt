@@ -7,7 +7,7 @@ use Rattle.answer.proofs.answer.Goals as goal
 
 -- `answer::answer` meets its contract: D and the currents in front, and the boards behind them. Assumes nothing.
 pub fault_at-f-requires : goal.fault_at-f-requires
-fault_at-f-requires c = in_range c.requires.1 c.node_at-at.ensures
+fault_at-f-requires c = in_range c.requires.1 refl
 
 pub chain-on-requires : goal.chain-on-requires
 chain-on-requires c = let p = c.requires.1 in ((k_in p).1, earlier_all p)
@@ -15,13 +15,13 @@ chain-on-requires c = let p = c.requires.1 in ((k_in p).1, earlier_all p)
 pub top-requires : goal.top-requires
 top-requires c =
     let p = c.requires.1 in
-    (length-take-le 13 c.args.out.now (omega arith), fault_small c.requires.0 p.ready (faulted_good p c.node_at-at.ensures c.fault_at-f.ensures))
+    (length-take-le 13 c.args.out.now (omega arith), fault_small c.requires.0 p.ready (faulted_good p refl c.fault_at-f.ensures))
 
 pub boards-requires : goal.boards-requires
 boards-requires c =
     let p = c.requires.1 in (
       c.requires.0,
-      passing p c.node_at-at.ensures refl c.fault_at-f.ensures c.chain-on.ensures,
+      passing p refl c.from-n.ensures c.fault_at-f.ensures c.chain-on.ensures,
       omega (arith, room_stays c.fault_at-f.result c.args.out.now c.top.ensures (omega arith)),
     )
 
@@ -31,13 +31,13 @@ amps-requires c =
     record {
       volts_at_most = (volts_in p).0;
       unit_at_least = (volts_in p).1;
-      d_positive = d_positive p c.node_at-at.ensures (d_good p c.node_at-at.ensures c.fault_at-f.ensures) c.fault_at-f.ensures;
+      d_positive = d_positive p refl (d_good p refl c.fault_at-f.ensures) c.fault_at-f.ensures;
     }
 
 pub returns : goal.returns
 returns c =
     record {
-      value = λ q p. amps_good p c.node_at-at.ensures c.amps.result (d_good p c.node_at-at.ensures c.fault_at-f.ensures) refl c.fault_at-f.ensures c.amps.ensures;
-      out_after = λ q p. whole p c.args.out.now refl (faulted_good p c.node_at-at.ensures c.fault_at-f.ensures) c.top.ensures
-          (c.boards.ensures q (passing p c.node_at-at.ensures refl c.fault_at-f.ensures c.chain-on.ensures));
+      value = λ q p. amps_good p refl c.amps.result (d_good p refl c.fault_at-f.ensures) refl c.fault_at-f.ensures c.amps.ensures;
+      out_after = λ q p. whole p c.args.out.now c.from-n.ensures (faulted_good p refl c.fault_at-f.ensures) c.top.ensures
+          (c.boards.ensures q (passing p refl c.from-n.ensures c.fault_at-f.ensures c.chain-on.ensures));
     }

@@ -5,7 +5,7 @@ use Rattle.paper.specs.Phase.{phases}
 use Rattle.paper.specs.Answer.{flat}
 use Rattle.paper.specs.Bounds.{Plane, EachSeq, most_w}
 use Rattle.board.specs.Numbers.{left_of, passed_of, numbers_of}
-use Rattle.board.proofs.Nothing.{passed_nothing}
+use Rattle.board.proofs.Nothing.{all_zero, passed_nothing}
 use Rattle.board.proofs.Rows.{two_parts, phases_length}
 use Rattle.board.proofs.Small.{left_small, passed_small}
 use Rattle.board.proofs.board.Goals as goal
@@ -46,5 +46,5 @@ returns-else-on c =
     let f = a.f in
     let t = a.node.turn in
     let voltages = c.shown.ensures ∙ ap (λ (x : Seq). flat (phases f.phase t f.turn x)) c.left-x.ensures in
-    let currents = c.nothing.ensures ∙ passed_nothing f.phase t f.turn f.i a.on _ f.earthed c.if-on.false in
+    let currents = all_zero (c.fill.ensures.after (λ y e. e)) (search rules) ∙ passed_nothing f.phase t f.turn f.i a.on _ f.earthed c.if-on.false in
     two_parts 12 12 a.out.now _ _ voltages currents (sym (phases_length f.phase t f.turn _)) (sym (phases_length f.phase t f.turn _)) (sym c.requires.0)

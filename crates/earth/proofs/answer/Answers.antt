@@ -5,4 +5,4 @@ use Rattle.lines.proofs.EarthLine.{earth_most_lem}
 use Rattle.earth.proofs.answer.Goals as goal
 
 pub put_earth-requires : goal.put_earth-requires
-put_earth-requires c = record { fits = omega (arith, earth_most_lem (said c.earth-given.result), c.requires) }
+put_earth-requires c = record { room = record { fits = omega (arith, earth_most_lem (said c.earth-given.result), c.requires) } }

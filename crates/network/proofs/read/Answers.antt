@@ -1,32 +1,33 @@
-use mathlib.Core.Path.{sym, ◌∙◌, ap}
+use mathlib.Core.Path.{◌≡◌, sym, ◌∙◌, ap}
 use Prim.Native.Nat.{ℕ, ◌+◌, ◌*◌}
 use native.Mathlib.Omega.{arith}
+use borrow.Author.Rules.{rules}
+use Rattle.std.specs.Prelude.{Err}
 use Rattle.paper.specs.declared.Head.{Head}
-use Rattle.records.proofs.Said.{placed}
 use Rattle.network.proofs.Head.{kept_head}
-use Rattle.network.proofs.Whole.{read_short, read_head, read_refused, read_accepted}
+use Rattle.network.proofs.Whole.{head_right, read_head, read_refused, read_accepted}
 use Rattle.network.proofs.read.Goals as goal
 
-pub returns-then-broken-eq1 : goal.returns-then-broken-eq1
-returns-then-broken-eq1 c = let r = read_short _ _ c.head_number-broken.ensures c.if-broken-eq1.true c.refused.ensures in record { value = r.0; nodes_after = r.1 }
-
-pub returns-then-broken-ne0 : goal.returns-then-broken-ne0
-returns-then-broken-ne0 c = let r = read_head _ _ c.head_number-broken.ensures c.if-broken-eq1.false c.if-broken-ne0.true c.refused-then-broken-ne0.ensures in record { value = r.0; nodes_after = r.1 }
-
-pub head_of-head-requires : goal.head_of-head-requires
-head_of-head-requires c = (kept_head _ (sym c.head_number-broken.ensures ∙ c.if-broken-ne0.false)).long
+pub returns-in_err-head : goal.returns-in_err-head
+returns-in_err-head c =
+    let back : c.from_residual.result ≡ Err c.in_err-head.field-0.0 = search rules in
+    let r = read_head c.args.net.now c.args.label c.read_head.ensures c.in_err-head.was in
+    record { value = back ∙ r.0; nodes_after = r.1 }
 
 pub judge-judged-requires : goal.judge-judged-requires
 judge-judged-requires c =
-    let k = kept_head _ (sym c.head_number-broken.ensures ∙ c.if-broken-ne0.false) in
-    let n = ap (λ (c : Head). c.boards) c.head_of-head.ensures in
+    let d = head_right c.args.net.now c.args.label c.read_head.ensures c.in_ok-head.was in
+    let k = kept_head c.args.net.now d.0 in
+    let n = ap (λ (h : Head). h.boards) (sym d.1) in
     record { n_value = (n, omega (arith, k.few, n), k.size ∙ ap (λ (m : ℕ). 8 + 44 * m) (sym n)); nodes_value = c.requires }
 
-pub overflow_sub-place : goal.overflow_sub-place
-overflow_sub-place c = placed c.args.net.now c.args.label c.judge-judged.ensures.value c.if-number-ne0.true
-
-pub returns-then-number-ne0 : goal.returns-then-number-ne0
-returns-then-number-ne0 c = let r = read_refused _ _ c.head_number-broken.ensures c.if-broken-ne0.false c.judge-judged.ensures.value c.if-number-ne0.true c.refused-then-number-ne0.ensures in record { value = r.0; nodes_after = r.1 }
+pub returns-in_err-judged : goal.returns-in_err-judged
+returns-in_err-judged c =
+    let back : c.from_residual-in_err-judged.result ≡ Err c.in_err-judged.field-0.0 = search rules in
+    let r = read_refused c.args.net.now c.args.label c.read_head.ensures c.in_ok-head.was c.judge-judged.ensures.value c.in_err-judged.was in
+    record { value = back ∙ r.0; nodes_after = r.1 }
 
 pub returns : goal.returns
-returns c = let r = read_accepted _ _ c.head_number-broken.ensures c.if-broken-ne0.false c.judge-judged.ensures.value c.if-number-ne0.false c.head_of-head.ensures c.judge-judged.ensures.nodes_after in record { value = r.0; nodes_after = r.1 }
+returns c =
+    let r = read_accepted c.args.net.now c.args.label c.read_head.ensures c.in_ok-head.was c.judge-judged.ensures.value c.in_ok-judged.was c.judge-judged.ensures.nodes_after in
+    record { value = r.0; nodes_after = r.1 }

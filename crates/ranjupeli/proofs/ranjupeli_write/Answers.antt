@@ -3,4 +3,4 @@ use Rattle.ranjupeli.specs.Reply.{write_reply_of}
 use Rattle.ranjupeli.proofs.ranjupeli_write.Goals as goal
 
 pub returns : goal.returns
-returns c = let s = c.write-w.ensures in record { value = c.laid_out_write.ensures ∙ ap write_reply_of s.value; out_after = s.out_after }
+returns c = let s = c.write.ensures in record { value = c.from.ensures ∙ ap write_reply_of s.value; out_after = s.out_after }

@@ -1,6 +1,5 @@
-use Rattle.std.proofs.Common.{◌≡◌, ℕ, ◌-◌, ◌*◌, ◌^◌, ◌<◌, ◌≤◌, true, false, leb, sym, ◌∙◌, zero-le, lt_of_lt_of_le, le_antisymm, zero-mul, sub-add_cancel, le-mul_of_pos_right, arith, rules, leb-false, leb-true}
+use Rattle.std.proofs.Common.{◌≡◌, ℕ, ◌-◌, ◌*◌, ◌^◌, ◌<◌, ◌≤◌, true, false, leb, sym, ◌∙◌, zero-le, lt_of_lt_of_le, le_antisymm, zero-mul, sub-add_cancel, le-mul_of_pos_right, arith, leb-false, leb-true}
 use Rattle.root.specs.Root.{Root}
-use Rattle.root.proofs.WideLaws.{value_lt}
 use Rattle.root.proofs.root.Invariants.{Bracket}
 use Rattle.root.proofs.root.Goals as goal
 use Rattle.root.proofs.root.Goals.{then-reaches, else-reaches}
@@ -24,7 +23,7 @@ module _ {num den lo top : ℕ} (b : Bracket num den lo top) where
   shut h = record { low = b.low; high = rw (le_antisymm b.order h) b.high }
 
 pub loop-lo-init : goal.loop-lo-init
-loop-lo-init c = opened (value_lt c.args.num (search rules) (search rules)) c.requires
+loop-lo-init c = opened (omega arith) c.requires
 
 pub loop-lo-preserved : goal.loop-lo-preserved
 loop-lo-preserved c =

@@ -1,20 +1,17 @@
 use native.Mathlib.Omega.{arith}
-use Rattle.decimal.proofs.Writes.{left_by, left_then, left_last, room_front, wrote_length}
+use Rattle.decimal.proofs.Pens.{left_by, left_then, left_last, fits_front}
 use Rattle.paper.specs.File.{fault_of}
 use Rattle.text.proofs.Tops.{top_pieces}
 use Rattle.text.proofs.put_top.Goals as goal
 
-pub put_fault-a-requires : goal.put_fault-a-requires
-put_fault-a-requires c =
-    room_front _ (left_by (top_pieces (fault_of c.args.flt.now) c.args.amps c.args.zs.now c.fault_of-f.ensures) c.requires.room).room
+pub put_fault-requires : goal.put_fault-requires
+put_fault-requires c =
+    fits_front _ (left_by (top_pieces (fault_of c.args.flt.now) c.args.amps c.args.zs.now c.fault_of-f.ensures) c.requires.room).room
 
 pub put_currents-requires : goal.put_currents-requires
 put_currents-requires c =
-    record { in_bounds = omega arith; room = (left_then (left_by (top_pieces (fault_of c.args.flt.now) c.args.amps c.args.zs.now c.fault_of-f.ensures) c.requires.room) c.put_fault-a.ensures).room }
+    record { in_bounds = omega arith; room = (left_then (left_by (top_pieces (fault_of c.args.flt.now) c.args.amps c.args.zs.now c.fault_of-f.ensures) c.requires.room) c.put_fault.ensures).room }
 
 pub returns : goal.returns
 returns c =
-    left_last (left_then (left_by (top_pieces (fault_of c.args.flt.now) c.args.amps c.args.zs.now c.fault_of-f.ensures) c.requires.room) c.put_fault-a.ensures) c.put_currents.ensures
-
-pub shape_of-out : goal.shape_of-out
-shape_of-out c = wrote_length c.requires.room (returns c)
+    left_last (left_then (left_by (top_pieces (fault_of c.args.flt.now) c.args.amps c.args.zs.now c.fault_of-f.ensures) c.requires.room) c.put_fault.ensures) c.put_currents.ensures

@@ -17,9 +17,9 @@ shown-bytes-requires c =
 pub put_said-requires : goal.put_said-requires
 put_said-requires c =
     let q = c.part_said-part.result in
-    record { fits = omega (arith, said_length (said c.earth-given.result) c.shown-bytes.result.now, ap length (lent_bytes q.whose c.args.net c.args.label c.shown-bytes.ensures), shown_most q c.args.net.now c.args.label.now {m = 16400} c.requires.net_len_bound (omega arith), c.requires.in_bounds) }
+    record { room = record { fits = omega (arith, said_length (said c.earth-given.result) c.shown-bytes.result.now, ap length (lent_bytes q.whose c.args.net c.args.label c.shown-bytes.ensures), shown_most q c.args.net.now c.args.label.now {m = 16400} c.requires.net_len_bound (omega arith), c.requires.in_bounds) } }
 
 pub returns-clause-upper_bound : goal.returns-clause-upper_bound
 returns-clause-upper_bound c =
     let q = c.part_said-part.result in
-    omega (arith, c.put_said.ensures.behind, said_length (said c.earth-given.result) c.shown-bytes.result.now, ap length (lent_bytes q.whose c.args.net c.args.label c.shown-bytes.ensures), shown_most q c.args.net.now c.args.label.now {m = 16400} c.requires.net_len_bound (omega arith), c.requires.in_bounds)
+    omega (arith, c.put_said.ensures.wrote.behind, said_length (said c.earth-given.result) c.shown-bytes.result.now, ap length (lent_bytes q.whose c.args.net c.args.label c.shown-bytes.ensures), shown_most q c.args.net.now c.args.label.now {m = 16400} c.requires.net_len_bound (omega arith), c.requires.in_bounds)

@@ -13,9 +13,9 @@ shown-bytes-requires c = subst (λ (a : Answer). Within a.part c.args.net.now c.
 pub put_answer-requires : goal.put_answer-requires
 put_answer-requires c =
     let p = c.solve-given.result.part in
-    record { fits = omega (arith, bytes_length c.solve-given.result c.shown-bytes.result.now c.solve-given.new.buffer, ap length (lent_bytes p.whose c.args.net c.args.flt c.shown-bytes.ensures), shown_most p c.args.net.now c.args.flt.now {m = 16400} c.requires.net_len_bound (omega arith), c.solve-given.auto.buffer, c.mark.auto.buffer, c.requires.buffer_in_bounds) }
+    record { room = record { fits = omega (arith, bytes_length c.solve-given.result c.shown-bytes.result.now c.solve-given.new.buffer, ap length (lent_bytes p.whose c.args.net c.args.flt c.shown-bytes.ensures), shown_most p c.args.net.now c.args.flt.now {m = 16400} c.requires.net_len_bound (omega arith), c.solve-given.auto.buffer, c.mark.auto.buffer, c.requires.buffer_in_bounds) } }
 
 pub returns-clause-upper_bound : goal.returns-clause-upper_bound
 returns-clause-upper_bound c =
     let p = c.solve-given.result.part in
-    omega (arith, c.put_answer.ensures.behind, bytes_length c.solve-given.result c.shown-bytes.result.now c.solve-given.new.buffer, ap length (lent_bytes p.whose c.args.net c.args.flt c.shown-bytes.ensures), shown_most p c.args.net.now c.args.flt.now {m = 16400} c.requires.net_len_bound (omega arith), c.solve-given.auto.buffer, c.mark.auto.buffer, c.requires.buffer_in_bounds)
+    omega (arith, c.put_answer.ensures.wrote.behind, bytes_length c.solve-given.result c.shown-bytes.result.now c.solve-given.new.buffer, ap length (lent_bytes p.whose c.args.net c.args.flt c.shown-bytes.ensures), shown_most p c.args.net.now c.args.flt.now {m = 16400} c.requires.net_len_bound (omega arith), c.solve-given.auto.buffer, c.mark.auto.buffer, c.requires.buffer_in_bounds)

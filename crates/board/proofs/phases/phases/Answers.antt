@@ -1,6 +1,6 @@
 use mathlib.Core.Path.{refl, ◌∙◌}
 use Prim.Native.Nat.{◌+◌, ◌*◌}
-use native.Mathlib.Omega.{arith}
+use borrow.Author.Rules.{rules}
 use Rattle.fits.proofs.Plane.{plane_turn}
 use Rattle.fits.proofs.Needs.{within_is}
 use Rattle.board.proofs.Sums.{laid_shows}
@@ -19,17 +19,13 @@ quarters-w-requires c = c.requires.x_plane.e2
 pub three-requires : goal.three-requires
 three-requires c =
     let a = c.args in
-    let x = c.requires.x_plane in
-    record {
-      out_len = (c.requires.out_len, c.requires.p_bound.0, omega arith);
-      within = (
-        within_is c.quarters-u.ensures (plane_turn (9 * 0) x.e0),
-        within_is c.quarters-v.ensures (plane_turn (9 * (11 * a.sj + a.sk)) x.e1),
-        within_is c.quarters-w.ensures (plane_turn (9 * (a.sj + 11 * a.sk)) x.e2),
-      );
-    }
+    let x = c.requires.x_plane in (
+      within_is c.quarters-u.ensures (plane_turn (9 * 0) x.e0),
+      within_is c.quarters-v.ensures (plane_turn (9 * (11 * a.sj + a.sk)) x.e1),
+      within_is c.quarters-w.ensures (plane_turn (9 * (a.sj + 11 * a.sk)) x.e2),
+    )
 
 pub returns : goal.returns
 returns c =
     let a = c.args in
-    c.three.ensures ∙ laid_shows a.p a.sj a.sk a.x a.out.now c.requires.out_len refl c.quarters-u.ensures c.quarters-v.ensures c.quarters-w.ensures
+    c.three.ensures ∙ laid_shows a.p.n a.sj a.sk a.x a.out.now (search rules) refl c.quarters-u.ensures c.quarters-v.ensures c.quarters-w.ensures

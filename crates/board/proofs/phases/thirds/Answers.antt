@@ -16,15 +16,15 @@ turned : (c1 c2 : Num) {a b n : Num} → a ≡ turn_n 4 c1 → b ≡ turn_n 8 c2
 turned c1 c2 d e f = f ∙ ap₂ ◌+N◌ d e
 
 pub add-requires : goal.add-requires
-add-requires c = let n = asked c.requires.within in record { a_addable = within_is c.turn.ensures n.by_a; b_addable = within_is c.turn-2.ensures n.by_a² }
+add-requires c = let n = asked c.requires in (within_is c.turn.ensures n.by_a, within_is c.turn-2.ensures n.by_a²)
 
 pub add-n-requires : goal.add-n-requires
 add-n-requires c =
-    let n = asked c.requires.within in
-    record { a_addable = n.plain; b_addable = within_is (turned c.args.c1 c.args.c2 c.turn.ensures c.turn-2.ensures c.add.ensures) n.turned }
+    let n = asked c.requires in
+    (n.plain, within_is (turned c.args.c1 c.args.c2 c.turn.ensures c.turn-2.ensures c.add.ensures) n.turned)
 
 pub returns : goal.returns
 returns c =
     let s = c.args in
     c.phase.ensures
-    ∙ ap (λ (n : Num). shown_at s.ph n s.out.now) (c.add-n.ensures ∙ ap (λ (n : Num). s.c0 +N n) (turned s.c1 s.c2 c.turn.ensures c.turn-2.ensures c.add.ensures))
+    ∙ ap (λ (n : Num). shown_at s.ph.n n s.out.now) (c.add-n.ensures ∙ ap (λ (n : Num). s.c0 +N n) (turned s.c1 s.c2 c.turn.ensures c.turn-2.ensures c.add.ensures))

@@ -1,5 +1,4 @@
 use mathlib.Core.Path.{◌≡◌, ap, ◌∙◌}
-use Prim.Native.Nat.{ℕ, ◌≤◌}
 use native.Mathlib.Omega.{arith}
 use Rattle.turn.specs.declared.Num.{Num}
 use Rattle.turn.specs.Number.{◌+N◌, turn_n}
@@ -17,42 +16,36 @@ asked w = for_all w.0 w.1 w.2
 all : (u v w : Num) {m n : Num} → m ≡ v +N w → n ≡ u +N m → n ≡ u +N (v +N w)
 all u v w d e = e ∙ ap (λ (n : Num). u +N n) d
 
-two : {p : ℕ} → p ≤ 2 → (p ≡ 0 → ⊥) → (p ≡ 1 → ⊥) → p ≡ 2
-two h k l = omega arith
-
 pub add-all-requires : goal.add-all-requires
-add-all-requires c = let n = asked c.requires.within in record { a_addable = n.zero; b_addable = within_is c.add.ensures n.both }
+add-all-requires c = let n = asked c.requires in (n.zero, within_is c.add.ensures n.both)
 
 pub turn-requires : goal.turn-requires
-turn-requires c = let s = c.args in within_is (all s.u s.v s.w c.add.ensures c.add-all.ensures) (asked c.requires.within).all
+turn-requires c = let s = c.args in within_is (all s.u s.v s.w c.add.ensures c.add-all.ensures) (asked c.requires).all
 
-pub turn-requires-else-p-eq1 : goal.turn-requires-else-p-eq1
-turn-requires-else-p-eq1 c = let s = c.args in within_is (all s.u s.v s.w c.add.ensures c.add-all.ensures) (asked c.requires.within).all
+pub turn-requires-in_default : goal.turn-requires-in_default
+turn-requires-in_default c = let s = c.args in within_is (all s.u s.v s.w c.add.ensures c.add-all.ensures) (asked c.requires).all
 
-pub returns-then-p-eq0 : goal.returns-then-p-eq0
-returns-then-p-eq0 c =
+pub returns-in-0 : goal.returns-in-0
+returns-in-0 c =
     let s = c.args in
-    puts s.p 0 c.if-p-eq0.true s.f c.requires.out_len.2 s.u s.v s.w s.out.now c.after-g.ensures c.after-h.ensures c.phase.ensures c.thirds.ensures c.thirds-then-p-eq0.ensures
+    puts s.p.n 0 c.in-0.is s.f.n s.f.of_three s.u s.v s.w s.out.now c.next-g.ensures c.next-h.ensures c.phase.ensures c.thirds.ensures c.thirds-in-0.ensures
     (all s.u s.v s.w c.add.ensures c.add-all.ensures ∙ odd_0 _ _ _)
     (next_0 _ _ _)
     (last_0 _ _ _)
 
-pub returns-then-p-eq1 : goal.returns-then-p-eq1
-returns-then-p-eq1 c =
+pub returns-in-1 : goal.returns-in-1
+returns-in-1 c =
     let s = c.args in
-    puts s.p 1 c.if-p-eq1.true s.f c.requires.out_len.2 s.u s.v s.w s.out.now c.after-g.ensures c.after-h.ensures c.phase-then-p-eq1.ensures c.thirds-then-p-eq1.ensures
-    c.thirds-then-p-eq1-2.ensures
+    puts s.p.n 1 c.in-1.is s.f.n s.f.of_three s.u s.v s.w s.out.now c.next-g.ensures c.next-h.ensures c.phase-in-1.ensures c.thirds-in-1.ensures c.thirds-in-1-2.ensures
     (c.turn.ensures ∙ ap (λ (n : Num). turn_n 8 n) (all s.u s.v s.w c.add.ensures c.add-all.ensures) ∙ odd_1 _ _ _)
     (next_1 _ _ _)
     (last_1 _ _ _)
 
-pub returns-else-p-eq1 : goal.returns-else-p-eq1
-returns-else-p-eq1 c =
+pub returns-in_default : goal.returns-in_default
+returns-in_default c =
     let s = c.args in
-    puts s.p 2 (two c.requires.out_len.1 c.if-p-eq0.false c.if-p-eq1.false) s.f c.requires.out_len.2 s.u s.v s.w s.out.now c.after-g.ensures c.after-h.ensures
-    c.phase-else-p-eq1.ensures
-    c.thirds-else-p-eq1.ensures
-    c.thirds-else-p-eq1-2.ensures
-    (c.turn-else-p-eq1.ensures ∙ ap (λ (n : Num). turn_n 4 n) (all s.u s.v s.w c.add.ensures c.add-all.ensures) ∙ odd_2 _ _ _)
+    let p : s.p.n ≡ 2 = omega (arith, s.p.of_three) in
+    puts s.p.n 2 p s.f.n s.f.of_three s.u s.v s.w s.out.now c.next-g.ensures c.next-h.ensures c.phase-in_default.ensures c.thirds-in_default.ensures c.thirds-in_default-2.ensures
+    (c.turn-in_default.ensures ∙ ap (λ (n : Num). turn_n 4 n) (all s.u s.v s.w c.add.ensures c.add-all.ensures) ∙ odd_2 _ _ _)
     (next_2 _ _ _)
     (last_2 _ _ _)

@@ -1,8 +1,8 @@
-use Rattle.decimal.proofs.Bits.{below_is, above_is}
+use mathlib.Core.Path.{ap, ◌∙◌}
+use mir.Facts.{to_z-of_z}
+use Rattle.decimal.specs.Word.{word_of}
+use Rattle.decimal.proofs.Bits.{word_is}
 use Rattle.decimal.proofs.little.word.Goals as goal
 
-pub returns-then-z-lt0 : goal.returns-then-z-lt0
-returns-then-z-lt0 c = below_is _ c.ranges.z c.magnitude-m.ensures c.if-z-lt0.true
-
 pub returns : goal.returns
-returns c = above_is _ c.ranges.z c.magnitude-m.ensures c.if-z-lt0.false
+returns c = c.cast_unsigned.ensures ∙ word_is _ ∙ ap word_of (to_z-of_z c.ranges.z)

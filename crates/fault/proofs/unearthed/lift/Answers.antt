@@ -1,37 +1,43 @@
-use mathlib.Core.Path.{sym, ap, ◌∙◌}
-use lib.IntN.{ℤ}
-use mir.Facts.{to_z-of_z}
-use borrow.Author.Rules.{rules}
-use Rattle.turn.specs.Number.{whole_n, neg_n, ◌-N◌, ◌*N◌}
-use Rattle.paper.specs.Fault.{num_of, lift_of}
+use mathlib.Core.Bool.{Bool, true, false, not}
+use mathlib.Core.Path.{◌≡◌, refl, ap, ◌∙◌}
+use Rattle.turn.specs.declared.Num.{Num}
+use Rattle.turn.specs.Number.{neg_n}
+use Rattle.paper.specs.Fault.{nil_n, lift_of}
 use Rattle.paper.specs.Phase.{only_if}
-use Rattle.follows.proofs.Row.{clear_lifts_nothing}
 use Rattle.fits.proofs.Needs.{for_first, within_is}
+use Rattle.fault.specs.declared.kinds.FaultKind.{FaultKind}
+use Rattle.fault.specs.declared.kinds.FaultKind.TheVariants.{ThreePhases, OneToEarth, TwoPhases, TwoToEarth, Nothing}
+use Rattle.fault.specs.Kinds.{number_of}
+use Rattle.fault.proofs.unearthed.lift.Goals.{in_default-via-in-OneToEarth+else-not-earthed, in_default-via-in-TwoToEarth+else-not-earthed-2, in_default-via-in_default}
 use Rattle.fault.proofs.unearthed.lift.Goals as goal
 
 -- `fault::unearthed::lift` meets its contract, kind by kind. Assumes nothing.
-pub returns-then-earthed : goal.returns-then-earthed
-unfolding only_if
-returns-then-earthed c = rw c.if-earthed.true c.whole.ensures
+-- a fault that is clear of earth lifts nothing
+clear : (kind : FaultKind) (earthed : Bool) (w : Num) → (kind ≡ OneToEarth → ⊥) → (kind ≡ TwoToEarth → ⊥) → nil_n ≡ only_if (not earthed) (lift_of (number_of kind) w)
+unfolding number_of only_if lift_of
+clear kind true w h1 h3 = refl
+clear ThreePhases false w h1 h3 = refl
+clear OneToEarth false w h1 h3 = absurd (h1 refl)
+clear TwoPhases false w h1 h3 = refl
+clear TwoToEarth false w h1 h3 = absurd (h3 refl)
+clear Nothing false w h1 h3 = refl
 
 pub neg-requires : goal.neg-requires
-neg-requires c =
-    let p = c.requires in
-    let a = c.args in
-    within_is (c.first.ensures ∙ ap (λ (d : ℤ). whole_n d -N num_of a.z1 *N a.i1) (to_z-of_z c.ranges.d)) (for_first p.d_small p.z1_at_most p.i1_plane).turned
+neg-requires c = let o = c.args.over in within_is c.first.ensures (for_first o.d_small c.args.z.z1_at_most o.i_plane.e1).turned
 
-pub returns-in-1 : goal.returns-in-1
-unfolding only_if lift_of
-returns-in-1 c =
-    let a = c.args in
-    rw (c.if-earthed.false, c.in-1.is) (c.neg.ensures ∙ ap neg_n (c.first.ensures ∙ ap (λ (d : ℤ). whole_n d -N num_of a.z1 *N a.i1) (to_z-of_z c.ranges.d)))
+pub returns-in-OneToEarth : goal.returns-in-OneToEarth
+unfolding number_of only_if lift_of
+returns-in-OneToEarth c = rw (c.if-not-earthed.true, c.in-OneToEarth.is) (c.neg.ensures ∙ ap neg_n c.first.ensures)
 
-pub returns-in-3 : goal.returns-in-3
-unfolding only_if lift_of
-returns-in-3 c =
-    let a = c.args in
-    rw (c.if-earthed.false, c.in-3.is) (c.first-in-3.ensures ∙ ap (λ (d : ℤ). whole_n d -N num_of a.z1 *N a.i1) (to_z-of_z c.ranges.d))
+pub returns-in-TwoToEarth : goal.returns-in-TwoToEarth
+unfolding number_of only_if lift_of
+returns-in-TwoToEarth c = rw (c.if-not-earthed-2.true, c.in-TwoToEarth.is) c.first-in-TwoToEarth.ensures
 
 pub returns-in_default : goal.returns-in_default
-unfolding only_if
-returns-in_default c = rw c.if-earthed.false (c.whole-in_default.ensures ∙ sym (clear_lifts_nothing _ _ (search rules) (search rules)))
+unfolding number_of only_if lift_of
+returns-in_default c =
+    elim c.in_default.branch [
+      | in_default-via-in-OneToEarth+else-not-earthed w ↦ rw w.if-not-earthed.false c.whole.ensures
+      | in_default-via-in-TwoToEarth+else-not-earthed-2 w ↦ rw w.if-not-earthed-2.false c.whole.ensures
+      | in_default-via-in_default w ↦ c.whole.ensures ∙ clear c.args.kind c.args.earthed _ w.in_default.not-OneToEarth w.in_default.not-TwoToEarth
+    ]

@@ -10,26 +10,20 @@ use Rattle.fits.proofs.Needs.{for_voltage, within_is}
 use Rattle.fault.proofs.volts.voltage.Goals as goal
 
 -- `fault::volts::voltage` meets its contract. Assumes nothing.
-pub drop-requires : goal.drop-requires
-drop-requires c = let p = c.requires in record { z_at_most = p.zb_at_most; i_plane = p.i_plane.e2 }
+pub neg-requires : goal.neg-requires
+neg-requires c = let p = c.requires in within_is c.drop.ensures (for_voltage p.i_plane p.zb_at_most p.zc_at_most p.up_plane).drop2
 
-pub neg-w2-requires : goal.neg-w2-requires
-neg-w2-requires c = let p = c.requires in within_is c.drop.ensures (for_voltage p.i_plane p.zb_at_most p.zc_at_most p.up_plane).drop2
-
-pub drop-requires-2 : goal.drop-requires-2
-drop-requires-2 c = let p = c.requires in record { z_at_most = p.zc_at_most; i_plane = p.i_plane.e0 }
-
-pub sub-w0-requires : goal.sub-w0-requires
-sub-w0-requires c =
+pub sub-requires : goal.sub-requires
+sub-requires c =
     let p = c.requires in
     let n = for_voltage p.i_plane p.zb_at_most p.zc_at_most p.up_plane in
-    record { a_addable = n.lifts; b_addable = within_is c.drop-2.ensures n.drop0 }
+    (n.lifts, within_is c.drop-2.ensures n.drop0)
 
 pub returns : goal.returns
 unfolding voltage_of
 returns c =
     let a = c.args in
     c.seq.ensures
-    ∙ (λ i. seq ((c.first-w1.ensures ∙ ap (λ (d : ℤ). whole_n d -N num_of a.za *N a.i.s1) (to_z-of_z c.ranges.d)) i)
-    ((c.neg-w2.ensures ∙ ap neg_n c.drop.ensures) i)
-    ((c.sub-w0.ensures ∙ ap (λ (n : Num). a.up -N n) c.drop-2.ensures ∙ +N_comm a.up (neg_n (num_of a.zc *N a.i.s0))) i))
+    ∙ (λ i. seq ((c.first.ensures ∙ ap (λ (d : ℤ). whole_n d -N num_of a.za *N a.i.s1) (to_z-of_z c.ranges.d)) i)
+    ((c.neg.ensures ∙ ap neg_n c.drop.ensures) i)
+    ((c.sub.ensures ∙ ap (λ (n : Num). a.up -N n) c.drop-2.ensures ∙ +N_comm a.up (neg_n (num_of a.zc *N a.i.s0))) i))

@@ -1,32 +1,38 @@
 -- Where the match begins, the code has made five tests: `tests` lists each row's of them.
-use Rattle.std.proofs.Common.{arith}
+use Rattle.paper.specs.Kind.{is_zero, same_ohms}
+use Rattle.kind.proofs.ByName.{row, no_row}
 use Rattle.kind.proofs.HoldRows.{rules_at, rules_none}
 use Rattle.kind.proofs.must_hold.rules_hold.Goals as goal
 
-pub returns-in-0 : goal.returns-in-0
-returns-in-0 c =
-    rules_at 0 c.args.b c.in-0.is c.is_zero.ensures c.is_zero-2.ensures c.same_ohms-same.ensures c.is_zero-no_z0.ensures c.is_zero-no_zn.ensures
+pub returns-in-Ok-Source : goal.returns-in-Ok-Source
+unfolding is_zero same_ohms
+returns-in-Ok-Source c =
+    rules_at 0 c.args.b (row c.try_from.ensures c.in-Ok-Source.is c.in-Ok-Source.field-0-is) c.ne.ensures c.ne-2.ensures c.eq-same.ensures c.eq-no_z0.ensures c.eq-no_zn.ensures
 
-pub returns-in-1 : goal.returns-in-1
-returns-in-1 c =
-    rules_at 1 c.args.b c.in-1.is c.is_zero.ensures c.is_zero-2.ensures c.same_ohms-same.ensures c.is_zero-no_z0.ensures c.is_zero-no_zn.ensures
+pub returns-in-Ok-FloatingSource : goal.returns-in-Ok-FloatingSource
+unfolding is_zero same_ohms
+returns-in-Ok-FloatingSource c =
+    rules_at 1 c.args.b (row c.try_from.ensures c.in-Ok-FloatingSource.is c.in-Ok-FloatingSource.field-0-is) c.ne.ensures c.ne-2.ensures c.eq-same.ensures c.eq-no_z0.ensures c.eq-no_zn.ensures
 
-pub returns-in-2 : goal.returns-in-2
-returns-in-2 c =
-    rules_at 2 c.args.b c.in-2.is c.is_zero.ensures c.is_zero-2.ensures c.same_ohms-same.ensures c.is_zero-no_z0.ensures c.is_zero-no_zn.ensures
+pub returns-in-Ok-Cable : goal.returns-in-Ok-Cable
+unfolding is_zero same_ohms
+returns-in-Ok-Cable c =
+    rules_at 2 c.args.b (row c.try_from.ensures c.in-Ok-Cable.is c.in-Ok-Cable.field-0-is) c.ne.ensures c.ne-2.ensures c.eq-same.ensures c.eq-no_z0.ensures c.eq-no_zn.ensures
 
-pub returns-in-3 : goal.returns-in-3
-returns-in-3 c =
-    rules_at 3 c.args.b c.in-3.is c.is_zero.ensures c.is_zero-2.ensures c.same_ohms-same.ensures c.is_zero-no_z0.ensures c.is_zero-no_zn.ensures
+pub returns-in-Ok-StarStar : goal.returns-in-Ok-StarStar
+unfolding is_zero same_ohms
+returns-in-Ok-StarStar c =
+    rules_at 3 c.args.b (row c.try_from.ensures c.in-Ok-StarStar.is c.in-Ok-StarStar.field-0-is) c.ne.ensures c.ne-2.ensures c.eq-same.ensures c.eq-no_z0.ensures c.eq-no_zn.ensures
 
-pub returns-in-4 : goal.returns-in-4
-returns-in-4 c =
-    rules_at 4 c.args.b c.in-4.is c.is_zero.ensures c.is_zero-2.ensures c.same_ohms-same.ensures c.is_zero-no_z0.ensures c.is_zero-no_zn.ensures
+pub returns-in-Ok-DeltaStar : goal.returns-in-Ok-DeltaStar
+unfolding is_zero same_ohms
+returns-in-Ok-DeltaStar c =
+    rules_at 4 c.args.b (row c.try_from.ensures c.in-Ok-DeltaStar.is c.in-Ok-DeltaStar.field-0-is) c.ne.ensures c.ne-2.ensures c.eq-same.ensures c.eq-no_z0.ensures c.eq-no_zn.ensures
 
-pub returns-in-5 : goal.returns-in-5
-returns-in-5 c =
-    rules_at 5 c.args.b c.in-5.is c.is_zero.ensures c.is_zero-2.ensures c.same_ohms-same.ensures c.is_zero-no_z0.ensures c.is_zero-no_zn.ensures
+pub returns-in-Ok-Blocking : goal.returns-in-Ok-Blocking
+unfolding is_zero same_ohms
+returns-in-Ok-Blocking c =
+    rules_at 5 c.args.b (row c.try_from.ensures c.in-Ok-Blocking.is c.in-Ok-Blocking.field-0-is) c.ne.ensures c.ne-2.ensures c.eq-same.ensures c.eq-no_z0.ensures c.eq-no_zn.ensures
 
-pub returns-in_default : goal.returns-in_default
-returns-in_default c =
-    rules_none c.args.b (omega arith) (omega arith) (omega arith) (omega arith) (omega arith) (omega arith)
+pub returns-in-Err : goal.returns-in-Err
+returns-in-Err c = rules_none c.args.b (no_row c.try_from.ensures c.in-Err.is)

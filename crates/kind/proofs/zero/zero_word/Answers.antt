@@ -1,25 +1,33 @@
 use Rattle.paper.specs.Kind.{kind_of, kinds}
+use Rattle.follows.proofs.KindTable.{unknown}
 use Rattle.kind.specs.Zero.{zero_word}
-use Rattle.kind.proofs.ZeroRows.{blocked}
-use Rattle.std.proofs.Common.{arith}
+use Rattle.kind.proofs.ByName.{row, no_row}
 use Rattle.kind.proofs.zero.zero_word.Goals as goal
 
-pub returns-in-0 : goal.returns-in-0
+pub returns-in-Ok-Source : goal.returns-in-Ok-Source
 unfolding kind_of kinds zero_word
-returns-in-0 c = rw c.in-0.is
+returns-in-Ok-Source c = rw (row c.try_from.ensures c.in-Ok-Source.is c.in-Ok-Source.field-0-is)
 
-pub returns-in-2 : goal.returns-in-2
+pub returns-in-Ok-FloatingSource : goal.returns-in-Ok-FloatingSource
 unfolding kind_of kinds zero_word
-returns-in-2 c = rw c.in-2.is
+returns-in-Ok-FloatingSource c = rw (row c.try_from.ensures c.in-Ok-FloatingSource.is c.in-Ok-FloatingSource.field-0-is)
 
-pub returns-in-3 : goal.returns-in-3
+pub returns-in-Ok-Cable : goal.returns-in-Ok-Cable
 unfolding kind_of kinds zero_word
-returns-in-3 c = rw c.in-3.is
+returns-in-Ok-Cable c = rw (row c.try_from.ensures c.in-Ok-Cable.is c.in-Ok-Cable.field-0-is)
 
-pub returns-in-4 : goal.returns-in-4
+pub returns-in-Ok-StarStar : goal.returns-in-Ok-StarStar
 unfolding kind_of kinds zero_word
-returns-in-4 c = rw c.in-4.is
+returns-in-Ok-StarStar c = rw (row c.try_from.ensures c.in-Ok-StarStar.is c.in-Ok-StarStar.field-0-is)
 
-pub returns-in_default : goal.returns-in_default
-unfolding zero_word
-returns-in_default c = rw (blocked {k = c.args.kind} ((((tt, omega arith), omega arith), omega arith), omega arith))
+pub returns-in-Ok-DeltaStar : goal.returns-in-Ok-DeltaStar
+unfolding kind_of kinds zero_word
+returns-in-Ok-DeltaStar c = rw (row c.try_from.ensures c.in-Ok-DeltaStar.is c.in-Ok-DeltaStar.field-0-is)
+
+pub returns-in-Ok-Blocking : goal.returns-in-Ok-Blocking
+unfolding kind_of kinds zero_word
+returns-in-Ok-Blocking c = rw (row c.try_from.ensures c.in-Ok-Blocking.is c.in-Ok-Blocking.field-0-is)
+
+pub returns-in-Err : goal.returns-in-Err
+unfolding kind_of kinds zero_word
+returns-in-Err c = rw (unknown c.args.kind (no_row c.try_from.ensures c.in-Err.is))

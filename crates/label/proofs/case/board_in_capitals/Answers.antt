@@ -9,4 +9,4 @@ by_labels : (b : Board) {label feeder : Label} → label ≡ capitals b.label �
 by_labels b e f = λ i. record { z1 = b.z1; z2 = b.z2; z0 = b.z0; zn = b.zn; label = e i; feeder = f i; kind = b.kind; clock = b.clock }
 
 pub returns : goal.returns
-returns c = by_labels c.args.b c.in_capitals-label.ensures c.in_capitals-feeder.ensures
+returns c = by_labels c.args.b c.in_capitals.ensures c.in_capitals-2.ensures

@@ -1,36 +1,46 @@
-use Rattle.std.proofs.Common.{add-one, ap, arith, set, ◌∙◌, get_or}
-use Rattle.paper.specs.Chain.{no_board}
-use Rattle.label.specs.Places.{spelt_at, places_with}
+use Rattle.std.proofs.Common.{◌≡◌, ℕ, ◌+◌, ◌<◌, ◌≤◌, List, map, length, get_or, set, sym, ap, ◌∙◌, arith}
+use lib.ListN.{length-map}
+use Rattle.std.proofs.lemmas.List.{get_or-map}
+use Rattle.paper.specs.Chain.{Boards, no_board}
+use Rattle.label.specs.declared.places.Place.{Place}
+use Rattle.label.specs.Places.{spelt_at, no_place, place_with, places_with}
 use Rattle.label.proofs.SpeltAt.{spelt_most}
-use Rattle.label.proofs.Filled.{filled_none, filled_next, filled_all}
+use Rattle.label.proofs.Filled.{filled, filled_none, filled_next, filled_all}
 use Rattle.label.proofs.places.find_all.Goals as goal
 
+module _ (bs : Boards) where
+  abbrev each : List Place
+  each = map (place_with spelt_at bs) bs
+
+  long : length each ≡ length bs
+  long = length-map bs (place_with spelt_at bs)
+
+  -- board j's places, and the next turn
+  turn : (j : ℕ) {ps : List Place} {own fed : ℕ} → j < length bs → length bs ≤ 256 → ps ≡ filled no_place each j → own ≡ spelt_at (get_or bs j no_board).label bs → fed ≡ spelt_at (get_or bs j no_board).feeder bs
+      → set ps j (record { own = own; fed = fed }) ≡ filled no_place each (j + 1)
+  turn j {own = own} {fed = fed} h few p eo ef =
+      ap (λ (x : List Place). set x j (record { own = own; fed = fed })) p
+      ∙ filled_next no_place each j (omega (arith, long)) (omega (arith, long)) ((λ i. record { own = eo i; fed = ef i }) ∙ sym (get_or-map (place_with spelt_at bs) bs j no_board no_place h))
+
+  done : (j : ℕ) {ps : List Place} → length bs ≤ j → ps ≡ filled no_place each j → ps ≡ places_with spelt_at bs
+  unfolding places_with
+  done j h p = p ∙ filled_all no_place each j (omega (arith, long))
+
 pub loop-j-init : goal.loop-j-init
-loop-j-init c = let bs = c.args.boards.now in (filled_none spelt_at (λ b. b.label) bs, filled_none spelt_at (λ b. b.feeder) bs)
+loop-j-init c = c.requires.1 ∙ filled_none no_place (each c.args.boards.now)
 
-pub overflow_cast-places : goal.overflow_cast-places
-overflow_cast-places c =
+pub overflow_cast-own : goal.overflow_cast-own
+overflow_cast-own c =
     let bs = c.args.boards.now in
-    record { fits = omega (arith, c.find.ensures, spelt_most (get_or bs c.loop-j.j no_board).label bs) }
+    record { fits = omega (arith, c.find-own.ensures, spelt_most (get_or bs c.loop-j.j no_board).label bs) }
 
-pub overflow_cast-places-in-loop-j : goal.overflow_cast-places-in-loop-j
-overflow_cast-places-in-loop-j c =
+pub overflow_cast-fed : goal.overflow_cast-fed
+overflow_cast-fed c =
     let bs = c.args.boards.now in
-    record { fits = omega (arith, c.find-in-loop-j.ensures, spelt_most (get_or bs c.loop-j.j no_board).feeder bs) }
+    record { fits = omega (arith, c.find-fed.ensures, spelt_most (get_or bs c.loop-j.j no_board).feeder bs) }
 
 pub loop-j-preserved : goal.loop-j-preserved
-loop-j-preserved c =
-    let bs = c.args.boards.now in
-    let j = c.loop-j.j in
-    rw add-one (
-      ap (λ xs. set xs j c.find.result) c.loop-j.invariant.0 ∙ filled_next spelt_at (λ b. b.label) bs j c.find.result (omega arith) c.requires c.find.ensures,
-      ap (λ xs. set xs j c.find-in-loop-j.result) c.loop-j.invariant.1 ∙ filled_next spelt_at (λ b. b.feeder) bs j c.find-in-loop-j.result (omega arith) c.requires c.find-in-loop-j.ensures,
-    )
+loop-j-preserved c = turn c.args.boards.now c.loop-j.j (omega arith) c.requires.0 c.loop-j.invariant c.find-own.ensures c.find-fed.ensures
 
 pub returns : goal.returns
-unfolding places_with
-returns c =
-    let bs = c.args.boards.now in
-    let own = c.loop-j.invariant.0 ∙ filled_all spelt_at (λ b. b.label) bs c.loop-j.j (omega arith) in
-    let fed = c.loop-j.invariant.1 ∙ filled_all spelt_at (λ b. b.feeder) bs c.loop-j.j (omega arith) in
-    λ i. record { own = own i; fed = fed i }
+returns c = done c.args.boards.now c.loop-j.j (omega arith) c.loop-j.invariant

@@ -13,11 +13,5 @@ pub returns : goal.returns
 unfolding square_n
 returns c = read (k c) (var 0 ⊗ var 0 ⊕ var 3 ⊗ var 3) tt
 
-pub overflow_mul-result : goal.overflow_mul-result
-overflow_mul-result c = fits (k c) (var 0 ⊗ var 0) tt
-
-pub overflow_mul-result-2 : goal.overflow_mul-result-2
-overflow_mul-result-2 c = fits (k c) (var 3 ⊗ var 3) tt
-
 pub overflow_add-result : goal.overflow_add-result
 overflow_add-result c = fits (k c) (var 0 ⊗ var 0 ⊕ var 3 ⊗ var 3) tt

@@ -1,7 +1,7 @@
 use mathlib.Core.Path.{◌∙◌}
 use mathlib.Core.List.{List, []}
 use Rattle.lemmas.proofs.Solver.{var, ◌⊕◌, ⊝◌}
-use Rattle.lemmas.proofs.Words.{Known, fits, reads as read}
+use Rattle.lemmas.proofs.Words.{Known, reads as read}
 use Rattle.turn.specs.Number.{conj_n, ◌+N◌, ◌·N◌, power_n, times_t}
 use Rattle.turn.proofs.Form.{by_coordinates}
 use Rattle.turn.proofs.Conj.{conj_f}
@@ -17,15 +17,3 @@ unfolding conj_n ◌+N◌ ◌·N◌ power_n times_t
 returns c =
     (λ i. record { x0 = read (k c) (var 0 ⊕ var 2) tt i; x1 = read (k c) (var 1) tt i; x2 = read (k c) (⊝ var 2) tt i; x3 = read (k c) (⊝ (var 1 ⊕ var 3)) tt i })
     ∙ by_coordinates 1 (λ a. record { f0 = a.f0 ⊕ a.f2; f1 = a.f1; f2 = ⊝ a.f2; f3 = ⊝ (a.f1 ⊕ a.f3) }) conj_f tt c.args.a
-
-pub overflow_add-r0 : goal.overflow_add-r0
-overflow_add-r0 c = fits (k c) (var 0 ⊕ var 2) tt
-
-pub overflow_sub-r2 : goal.overflow_sub-r2
-overflow_sub-r2 c = fits (k c) (⊝ var 2) tt
-
-pub overflow_add-r3 : goal.overflow_add-r3
-overflow_add-r3 c = fits (k c) (var 1 ⊕ var 3) tt
-
-pub overflow_sub-r3 : goal.overflow_sub-r3
-overflow_sub-r3 c = fits (k c) (⊝ (var 1 ⊕ var 3)) tt

@@ -24,9 +24,9 @@ pub returns : goal.returns
 unfolding power_n times_t
 returns c =
     let s = c in
-    let h = s.hour-h.result in
+    let h = s.hour.result in
     let below : h < 12 = omega arith in
     each_at (λ (n : ℕ). number (get_or (tab line 0 12) n []) ≡ power_n n) 12 h below
     (refl, (refl, (refl, (refl, (refl, (refl, (refl, (refl, (refl, (refl, (refl, (refl, tt))))))))))))
-    ∙ ap power_n s.hour-h.ensures
+    ∙ ap power_n s.hour.ensures
     ∙ power_mod s.args.n

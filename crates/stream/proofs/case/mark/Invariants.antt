@@ -1,13 +1,9 @@
 -- After i turns the buffer holds the first i marks.
 use mathlib.Core.Path.{◌≡◌}
-use Prim.Native.Nat.{◌-◌, ◌≤◌}
 use lib.ListN.{length}
 use lib.Seq.{paste}
 use Rattle.stream.specs.Case.{marks}
 use Rattle.stream.proofs.case.mark.Given as goal
 
 abbrev pub invariant-loop-i : goal.invariant-loop-i
-invariant-loop-i l = (l.i ≤ length l.initial.buffer) × (l.buffer ≡ paste l.initial.buffer 0 (marks (length l.initial.buffer)) l.i) × (length l.buffer ≡ length l.initial.buffer)
-
-abbrev pub decreases-loop-i : goal.decreases-loop-i
-decreases-loop-i l = length l.initial.buffer - l.i
+invariant-loop-i l = l.buffer ≡ paste l.initial.buffer 0 (marks (length l.initial.buffer)) l.i

@@ -1,7 +1,7 @@
 use mathlib.Core.Path.{◌≡◌, sym, ◌∙◌}
 use Prim.Native.Nat.{◌<◌}
 use native.Mathlib.Omega.{arith}
-use lib.ListN.{length, length-set}
+use lib.ListN.{length}
 use Rattle.lemmas.proofs.Over.{copy_one, copied}
 use Rattle.stream.specs.Case.{byte_marks}
 use Rattle.stream.proofs.Marks.{byte_marks_length, byte_mark_at_lem}
@@ -10,20 +10,13 @@ use Rattle.stream.proofs.case.mark_bytes.Goals as goal
 pub loop-i-preserved : goal.loop-i-preserved
 loop-i-preserved c =
     let i = c.loop-i.i in
-    let inv = c.loop-i.invariant in
     let old = c.args.out.now in
-    let lt : i < length old = omega arith in (
-      omega arith,
-      copy_one 0 old (byte_marks (length old)) _ i _ lt (omega (arith, byte_marks_length (length old))) inv.1 (byte_mark_at_lem (length old) i lt),
-      simp length-set inv.2,
-    )
-
-pub shape_of-out : goal.shape_of-out
-shape_of-out c = c.loop-i.invariant.2
+    let lt : i < length old = omega arith in
+    copy_one 0 old (byte_marks (length old)) _ i _ lt (omega (arith, byte_marks_length (length old))) c.loop-i.invariant (byte_mark_at_lem (length old) i lt)
 
 pub returns : goal.returns
 returns c =
     let l = c.loop-i in
     let old = c.args.out.now in
     let all : l.i ≡ length old = omega arith in
-    l.invariant.1 ∙ copied old (byte_marks (length old)) l.i (sym all) (byte_marks_length (length old) ∙ sym all)
+    l.invariant ∙ copied old (byte_marks (length old)) l.i (sym all) (byte_marks_length (length old) ∙ sym all)

@@ -1,18 +1,18 @@
 -- Number behind number.
-use Rattle.decimal.proofs.Writes.{left_by, left_then, left_last, room_front}
+use Rattle.decimal.proofs.Pens.{left_by, left_then, left_last, fits_front}
 use Rattle.stream.proofs.Pieces.{three_pieces}
 use Rattle.stream.proofs.part.put_three.Goals as goal
 
-pub put_four-second-requires : goal.put_four-second-requires
-put_four-second-requires c = room_front _ (left_by (three_pieces c.args.a c.args.b c.args.c) c.requires).room
+pub little-requires : goal.little-requires
+little-requires c = fits_front _ (left_by (three_pieces c.args.a c.args.b c.args.c) c.requires).room
 
-pub put_four-third-requires : goal.put_four-third-requires
-put_four-third-requires c = room_front _ (left_then (left_by (three_pieces c.args.a c.args.b c.args.c) c.requires) c.put_four-second.ensures).room
+pub little-requires-2 : goal.little-requires-2
+little-requires-2 c = fits_front _ (left_then (left_by (three_pieces c.args.a c.args.b c.args.c) c.requires) c.little.ensures).room
 
-pub put_four-requires : goal.put_four-requires
-put_four-requires c =
-    (left_then (left_then (left_by (three_pieces c.args.a c.args.b c.args.c) c.requires) c.put_four-second.ensures) c.put_four-third.ensures).room
+pub little-requires-3 : goal.little-requires-3
+little-requires-3 c =
+    (left_then (left_then (left_by (three_pieces c.args.a c.args.b c.args.c) c.requires) c.little.ensures) c.little-2.ensures).room
 
 pub returns : goal.returns
 returns c =
-    left_last (left_then (left_then (left_by (three_pieces c.args.a c.args.b c.args.c) c.requires) c.put_four-second.ensures) c.put_four-third.ensures) c.put_four.ensures
+    left_last (left_then (left_then (left_by (three_pieces c.args.a c.args.b c.args.c) c.requires) c.little.ensures) c.little-2.ensures) c.little-3.ensures

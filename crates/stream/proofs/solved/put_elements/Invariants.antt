@@ -1,12 +1,8 @@
--- After i turns the elements behind i are left to write.
-use Prim.Native.Nat.{◌-◌}
-use lib.ListN.{length, drop}
-use Rattle.decimal.proofs.Writes.{Left}
+-- The elements behind those that stand are left to write.
+use lib.ListN.{drop}
+use Rattle.decimal.proofs.Pens.{Left}
 use Rattle.stream.specs.Layout.{elements_of}
 use Rattle.stream.proofs.solved.put_elements.Given as goal
 
-abbrev pub invariant-loop-i : goal.invariant-loop-i
-invariant-loop-i l = Left l.at (elements_of l.zs) l.initial.out l.end (elements_of (drop l.i l.zs)) l.out
-
-abbrev pub decreases-loop-i : goal.decreases-loop-i
-decreases-loop-i l = length l.zs - l.i
+abbrev pub invariant-loop-z : goal.invariant-loop-z
+invariant-loop-z l = Left l.initial.pen (elements_of l.zs) l.pen (elements_of (drop l.z-index l.zs))

@@ -1,17 +1,20 @@
-use mathlib.Core.Path.{sym, ap}
+use mathlib.Core.Path.{◌≡◌, refl}
+use Rattle.std.specs.Prelude.{Ok}
 use Rattle.paper.specs.declared.EarthReturn.{EarthReturn}
+use Rattle.paper.specs.declared.EarthReturn.TheVariants.{From, Stopped}
+use Rattle.paper.specs.Refusal.{no_part}
 use Rattle.paper.specs.Return.{said}
 use Rattle.verdict.specs.Said.{part_said}
 use Rattle.verdict.proofs.said.part_said.Goals as goal
 
-pub returns-in-From : goal.returns-in-From
+nothing_shown : (e : EarthReturn) → no_part ≡ part_said (said (Ok e)).shown
 unfolding said
-returns-in-From c = ap (λ (x : EarthReturn). part_said (said x).shown) (sym c.in-From.is)
+nothing_shown (From r) = refl
+nothing_shown (Stopped r) = refl
 
-pub returns-in-Stopped : goal.returns-in-Stopped
-unfolding said
-returns-in-Stopped c = ap (λ (x : EarthReturn). part_said (said x).shown) (sym c.in-Stopped.is)
+pub returns-in-Ok : goal.returns-in-Ok
+returns-in-Ok c = rw c.in-Ok.is (nothing_shown _)
 
-pub returns-in-Refused : goal.returns-in-Refused
+pub returns-in-Err : goal.returns-in-Err
 unfolding said
-returns-in-Refused c = ap (λ (x : EarthReturn). part_said (said x).shown) (sym c.in-Refused.is)
+returns-in-Err c = rw c.in-Err.is

@@ -4,8 +4,8 @@ use Rattle.verdict.proofs.Parts.{lent_room, lent_end, lent_part}
 use Rattle.verdict.proofs.shown.shown.Goals as goal
 
 -- `verdict::shown::shown` meets its contract. Assumes nothing.
-pub overflow_add-e : goal.overflow_add-e
-overflow_add-e c = record { fits = lent_room c.args.part c.args.net.now c.args.asked.now (search rules) (search rules) c.requires }
+pub overflow_add-end : goal.overflow_add-end
+overflow_add-end c = record { fits = lent_room c.args.part c.args.net.now c.args.asked.now (search rules) (search rules) c.requires }
 
 pub slice_bounds-result-end : goal.slice_bounds-result-end
 slice_bounds-result-end c = lent_end c.args.part c.args.net c.args.asked NetworkBytes c.in-NetworkBytes.is c.requires

@@ -1,22 +1,27 @@
-use Rattle.std.proofs.Common.{sym, ap, arith}
+use Rattle.std.proofs.Common.{◌≡◌, take, sym, ap, arith, rules}
 use Rattle.paper.specs.Write.{boards_bytes}
 use Rattle.paper.specs.Chain.{no_board}
-use Rattle.decimal.proofs.Writes.{left_by, left_as, left_then, left_none, room_front}
+use Rattle.decimal.specs.Wrote.{Wrote}
+use Rattle.decimal.proofs.Pens.{left_by, left_as, left_then, left_none, fits_front}
 use Rattle.writer.proofs.Laid.{next_board, no_board_lem, first_256}
 use Rattle.writer.proofs.lay.put_boards.Goals as goal
 
-pub loop-i-init : goal.loop-i-init
-loop-i-init c = (omega arith, left_by (ap boards_bytes (sym (first_256 c.args.boards.now c.at_most_256-n.ensures))) c.requires)
+pub loop-b-init : goal.loop-b-init
+loop-b-init c = left_by (ap boards_bytes (sym (first_256 c.args.boards.now c.at_most_256-n.ensures))) (record { room = c.requires })
 
-pub put_board-end-requires : goal.put_board-end-requires
-put_board-end-requires c =
-    let more = left_as (next_board c.args.boards.now c.at_most_256-n.result c.loop-i.i no_board (omega arith) (omega arith)) c.loop-i.invariant.1 in
-    room_front _ more.room
+pub put_board-requires : goal.put_board-requires
+put_board-requires c =
+    let front = take c.at_most_256-n.result c.args.boards.now in
+    fits_front _ (left_as (next_board front c.loop-b.b-index no_board (omega arith)) c.loop-b.invariant).room
 
-pub loop-i-preserved : goal.loop-i-preserved
-loop-i-preserved c =
-    let more = left_as (next_board c.args.boards.now c.at_most_256-n.result c.loop-i.i no_board (omega arith) (omega arith)) c.loop-i.invariant.1 in
-    (omega arith, left_then more c.put_board-end.ensures)
+pub loop-b-preserved : goal.loop-b-preserved
+loop-b-preserved c =
+    let front = take c.at_most_256-n.result c.args.boards.now in
+    left_then (left_as (next_board front c.loop-b.b-index no_board (omega arith)) c.loop-b.invariant) c.put_board.ensures
 
 pub returns : goal.returns
-returns c = left_none (left_as (no_board_lem c.args.boards.now c.at_most_256-n.result c.loop-i.i (omega arith)) c.loop-i.invariant.1)
+returns c =
+    let w = left_none (left_as (no_board_lem (take c.at_most_256-n.result c.args.boards.now) c.loop-b.b-index (omega arith)) c.loop-b.invariant) in
+    let wrote : Wrote 8 (boards_bytes (take 256 c.args.boards.now)) c.args.page.now c.loop-b.pen.out.now c.loop-b.pen.at = w.wrote in
+    let same : c.loop-b.pen.out.ghost_name ≡ _ = w.same_buffer in
+    search rules

@@ -1,19 +1,19 @@
 -- Piece behind piece.
-use Rattle.decimal.proofs.Writes.{left_by, left_then, left_last, room_front}
+use Rattle.decimal.proofs.Pens.{left_by, left_then, left_last, fits_front}
 use Rattle.writer.proofs.Laid.{head_pieces}
 use Rattle.writer.proofs.lay.put_head.Goals as goal
 
-pub put_two-a-requires : goal.put_two-a-requires
-put_two-a-requires c = room_front _ (left_by (head_pieces c.args.h) c.requires).room
+pub little-requires : goal.little-requires
+little-requires c = fits_front _ (left_by (head_pieces c.args.h) c.requires).room
 
-pub put_two-b-requires : goal.put_two-b-requires
-put_two-b-requires c = room_front _ (left_then (left_by (head_pieces c.args.h) c.requires) c.put_two-a.ensures).room
+pub little-requires-2 : goal.little-requires-2
+little-requires-2 c = fits_front _ (left_then (left_by (head_pieces c.args.h) c.requires) c.little.ensures).room
 
-pub put_two-c-requires : goal.put_two-c-requires
-put_two-c-requires c = room_front _ (left_then (left_then (left_by (head_pieces c.args.h) c.requires) c.put_two-a.ensures) c.put_two-b.ensures).room
+pub little-requires-3 : goal.little-requires-3
+little-requires-3 c = fits_front _ (left_then (left_then (left_by (head_pieces c.args.h) c.requires) c.little.ensures) c.little-2.ensures).room
 
-pub put_two-requires : goal.put_two-requires
-put_two-requires c = (left_then (left_then (left_then (left_by (head_pieces c.args.h) c.requires) c.put_two-a.ensures) c.put_two-b.ensures) c.put_two-c.ensures).room
+pub little-requires-4 : goal.little-requires-4
+little-requires-4 c = (left_then (left_then (left_then (left_by (head_pieces c.args.h) c.requires) c.little.ensures) c.little-2.ensures) c.little-3.ensures).room
 
 pub returns : goal.returns
-returns c = left_last (left_then (left_then (left_then (left_by (head_pieces c.args.h) c.requires) c.put_two-a.ensures) c.put_two-b.ensures) c.put_two-c.ensures) c.put_two.ensures
+returns c = left_last (left_then (left_then (left_then (left_by (head_pieces c.args.h) c.requires) c.little.ensures) c.little-2.ensures) c.little-3.ensures) c.little-4.ensures

@@ -1,12 +1,14 @@
 -- The head is refused, a board is refused, there is no room, or the file is copied out.
-use Rattle.std.proofs.Common.{◌≡◌, ◌≤◌, Bool, List, ℕ, length, min, not, false, sym, ◌∙◌, ap, arith}
-use Rattle.paper.specs.Refusal.{head_ranges}
-use Rattle.node.proofs.Rows.{empty_rows}
+use Rattle.std.proofs.Common.{◌≡◌, ◌≤◌, Bool, List, ℕ, length, min, not, false, refl, sym, ◌∙◌, ap, arith}
+use Rattle.paper.specs.declared.Written.{Written}
+use Rattle.paper.specs.Refusal.{head_ranges, no_part}
+use Rattle.node.specs.Node.{no_node}
+use Rattle.node.proofs.Tables.{empty_table}
 use Rattle.decimal.specs.Wrote.{Wrote}
 use Rattle.paper.specs.Write.{head_bytes}
 use Rattle.writer.proofs.Judged.{head_said, wrong_head, long_fits, behind_fits, HeadPut, head_fits, len_fits, file_long, judged_as, wrong_board, no_room, all_kept, refused, accepted}
 use Rattle.writer.proofs.page.write_page.Goals as goal
-use Rattle.writer.proofs.page.write_page.Goals.{After-put_head-len}
+use Rattle.writer.proofs.page.write_page.Goals.{After-lay_head-len}
 
 -- ---- the head's test is the paper's
 said_as : (volts unit n : ℕ) {count : ℕ} {wrong b : Bool} → wrong ≡ not (head_ranges (record { volts = volts; unit = unit; boards = count })) → count ≡ min 65535 n → wrong ≡ b → not (head_ranges (head_said volts unit n)) ≡ b
@@ -18,17 +20,21 @@ put : (volts unit n : ℕ) {count end : ℕ} {page later : List ℕ} → not (he
     → HeadPut volts unit n page later
 put volts unit n kept v u l e w = record { kept = kept; volts_fit = v; unit_fit = u; long = l; k = _; k_is = e; end = _; wrote = w }
 
+-- a refusal by a rule, whose number is known
+numbered : {w : Written} {k number : ℕ} → k ≡ number → w ≡ record { part = no_part; len = 0; place = 0; number = k } → w ≡ record { part = no_part; len = 0; place = 0; number = number }
+numbered e w-is = w-is ∙ ap (λ (m : ℕ). record { part = no_part; len = 0; place = 0; number = m }) e
+
 -- the file on the page, once the head stands there
-standing : (c : After-put_head-len) → HeadPut c.args.volts c.args.unit c.args.n c.args.file.now c.put_head-len.new.out
-standing c = put c.args.volts c.args.unit c.args.n (said_as _ _ _ c.head_wrong.ensures c.said-count.ensures c.if-head_wrong.false) (omega (arith, c.ranges.volts.fits)) (omega (arith, c.ranges.unit.fits)) c.requires c.said-count.ensures c.put_head-len.ensures
+standing : (c : After-lay_head-len) → HeadPut c.args.volts c.args.unit c.args.n c.args.file.now c.lay_head-len.new.page
+standing c = put c.args.volts c.args.unit c.args.n (said_as _ _ _ c.head_wrong.ensures c.said-count.ensures c.if-head_wrong.false) (omega (arith, c.ranges.volts.fits)) (omega (arith, c.ranges.unit.fits)) c.requires c.said-count.ensures c.lay_head-len.ensures
 
 pub returns-then-head_wrong : goal.returns-then-head_wrong
 returns-then-head_wrong c =
-    let r = refused _ _ _ _ _ (wrong_head _ _ _ _ (said_as _ _ _ c.head_wrong.ensures c.said-count.ensures c.if-head_wrong.true)) c.answered.ensures in
+    let r = refused _ _ _ _ _ (wrong_head _ _ _ _ (said_as _ _ _ c.head_wrong.ensures c.said-count.ensures c.if-head_wrong.true)) (numbered c.number.ensures c.answered.ensures) in
     record { value = r.0; out_after = r.1 }
 
-pub put_head-len-requires : goal.put_head-len-requires
-put_head-len-requires c = head_fits _ c.requires
+pub lay_head-len-requires : goal.lay_head-len-requires
+lay_head-len-requires c = head_fits _ c.requires
 
 pub overflow_mul-len : goal.overflow_mul-len
 overflow_mul-len c = record { fits = behind_fits _ _ _ (said_as _ _ _ c.head_wrong.ensures c.said-count.ensures c.if-head_wrong.false) }
@@ -38,43 +44,43 @@ overflow_add-len c = record { fits = long_fits _ _ _ (said_as _ _ _ c.head_wrong
 
 pub slice_bounds-judge-end : goal.slice_bounds-judge-end
 slice_bounds-judge-end c =
-    let h = standing (goal.at.slice_bounds-judge-end c).After-put_head-len in
+    let h = standing (goal.at.slice_bounds-judge-end c).After-lay_head-len in
     len_fits h
 
 pub slice_bounds-judge-end-2 : goal.slice_bounds-judge-end-2
 slice_bounds-judge-end-2 c =
-    let h = standing (goal.at.slice_bounds-judge-end-2 c).After-put_head-len in
+    let h = standing (goal.at.slice_bounds-judge-end-2 c).After-lay_head-len in
     file_long h
 
 pub judge-judged-requires : goal.judge-judged-requires
 judge-judged-requires c =
-    let h = standing (goal.at.judge-judged-requires c).After-put_head-len in
-    record { n_value = judged_as h; nodes_value = empty_rows }
+    let h = standing (goal.at.judge-judged-requires c).After-lay_head-len in
+    record { n_value = judged_as h; nodes_value = empty_table no_node refl }
 
-pub returns-then-number-ne0 : goal.returns-then-number-ne0
-returns-then-number-ne0 c =
-    let h = standing (goal.at.returns-then-number-ne0 c).After-put_head-len in
-    let r = refused _ _ _ _ _ (wrong_board h _ _ c.judge-judged.ensures.value c.if-number-ne0.true) c.answered-then-number-ne0.ensures in
+pub returns-in-Err : goal.returns-in-Err
+returns-in-Err c =
+    let h = standing (goal.at.returns-in-Err c).After-lay_head-len in
+    let r = refused _ _ _ _ _ (wrong_board h _ _ c.judge-judged.ensures.value c.in-Err.is) c.answered-in-Err.ensures in
     record { value = r.0; out_after = r.1 }
 
 pub returns-then-out-len : goal.returns-then-out-len
 returns-then-out-len c =
-    let h = standing (goal.at.returns-then-out-len c).After-put_head-len in
-    let r = refused _ _ _ _ _ (no_room h _ _ c.judge-judged.ensures.value c.if-number-ne0.false c.if-out-len.true) c.answered-then-out-len.ensures in
+    let h = standing (goal.at.returns-then-out-len c).After-lay_head-len in
+    let r = refused _ _ _ _ _ (no_room h _ _ c.judge-judged.ensures.value c.in_default.is c.if-out-len.true) (numbered c.number-then-out-len.ensures c.answered-then-out-len.ensures) in
     record { value = r.0; out_after = r.1 }
 
-pub slice_bounds-put_bytes-end : goal.slice_bounds-put_bytes-end
-slice_bounds-put_bytes-end c =
-    let h = standing (goal.at.slice_bounds-put_bytes-end c).After-put_head-len in
+pub slice_bounds-copy_out-end : goal.slice_bounds-copy_out-end
+slice_bounds-copy_out-end c =
+    let h = standing (goal.at.slice_bounds-copy_out-end c).After-lay_head-len in
     len_fits h
 
-pub slice_bounds-put_bytes-end-2 : goal.slice_bounds-put_bytes-end-2
-slice_bounds-put_bytes-end-2 c =
-    let h = standing (goal.at.slice_bounds-put_bytes-end-2 c).After-put_head-len in
+pub slice_bounds-copy_out-end-2 : goal.slice_bounds-copy_out-end-2
+slice_bounds-copy_out-end-2 c =
+    let h = standing (goal.at.slice_bounds-copy_out-end-2 c).After-lay_head-len in
     file_long h
 
 pub returns : goal.returns
 returns c =
-    let h = standing (goal.at.returns c).After-put_head-len in
-    let r = accepted _ _ _ _ _ h (all_kept h _ _ c.judge-judged.ensures.value c.if-number-ne0.false c.if-out-len.false) c.put_bytes.ensures c.answered-2.ensures in
+    let h = standing (goal.at.returns c).After-lay_head-len in
+    let r = accepted _ _ _ _ _ h (all_kept h _ _ c.judge-judged.ensures.value c.in_default.is c.if-out-len.false) c.copy_out.ensures c.answered-2.ensures in
     record { value = r.0; out_after = r.1 }

@@ -1,9 +1,0 @@
--- Each turn takes one.
-use Rattle.std.proofs.Common.{length, ◌-◌, ◌≤◌}
-use Rattle.figures.proofs.kept.Given as goal
-
-abbrev pub invariant-loop-i : goal.invariant-loop-i
-invariant-loop-i l = (l.count ≤ l.i) × (l.i ≤ length l.all)
-
-abbrev pub decreases-loop-i : goal.decreases-loop-i
-decreases-loop-i l = length l.all - l.i
