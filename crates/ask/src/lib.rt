@@ -16,6 +16,7 @@ pub fn ask(flt: &[u8], k: u16, n: usize, room: usize) -> Result<Question, Refusa
     ensures { result ≡ ask_of flt.now k n room }
 {
     let fault = read_fault(flt)?;
+    // 0 as the paper's `place_of` has it: 14 is `eqb k 0` in `ask_of` (specs/Ask).
     if k == 0 {
         return Err(Refusal::at_the_front(Rule::UnknownBoard, Lent::FaultBytes, FAULT));
     }

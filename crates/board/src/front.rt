@@ -9,7 +9,8 @@ use node::Node;
 use paper::{Fault, Seq};
 use turn::Num;
 
-// No ghost field says FaultSmall: `fault_at` answers for any fault, and would have to ask more. The fault at its board: the currents over D, what W0 is lifted by in the board's part, D, the head of that part, the board's turn, the odd phase, and whether the part has an earth return.
+// The fault at its board: the currents over D, what W0 is lifted by in the board's part, D, the head of that part, the board's turn, the odd phase, and whether the part has an earth return.
+// No ghost field says FaultSmall: `fault_at` answers for any fault, and would have to ask more.
 #[derive(Clone, Copy)]
 pub struct Faulted {
     pub i: Seq,

@@ -17,8 +17,7 @@ pub fn chain(nodes: &[Node; 256], k: usize) -> [bool; 256]
     let mut on = [false; 256];
     // no index is counted: each feeder says where the next record is
     let mut at = k;
-    while at != 0 {
-        let i = at - 1;
+    while let Some(i) = at.checked_sub(1) {
         on[i] = true;
         at = usize::from(nodes[i].feeder);
     }

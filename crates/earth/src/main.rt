@@ -35,7 +35,7 @@ fn answer(out: &mut [u8], net: &[u8], label: &[u8]) -> usize
     pen.at
 }
 
-// Where it answers true, the answer stands on standard output behind what was there. What `short` does alike is `console::print`; over a closure for the answer it would be no plainer.
+// Where it answers true, the answer stands on standard output behind what was there. What `short` does alike is `console::print`; over a closure for the answer it would be no plainer. What may not change: its clause speaks of `true`, so no Result.
 fn show<O: Write, E: Write>(stdout: &mut O, stderr: &mut E, net: &[u8], label: &[u8]) -> bool
     ensures { IsTrue result → Appends (O.contents stdout.old) (O.contents stdout.new) (earth_text (earth_said net.now label.now)) }
 {

@@ -2,7 +2,7 @@
 ghost use Rattle.std.specs.Prelude.{◌≡◌};
 ghost use Rattle.fault.specs.Kinds.{kind_of};
 
-// What touches what.
+// What touches what. Nothing is a row of its own (docs/DECISIONS.md, 27), which one phase to earth without earth return has too: so no Option.
 #[derive(Clone, Copy)]
 pub enum FaultKind {
     ThreePhases,

@@ -31,7 +31,7 @@ pub struct Shorted {
     pub lift: Num,
 }
 
-// The three sequences.
+// The three sequences. By a function, since the clauses name it (`seq`).
 pub(crate) fn seq(s1: Num, s2: Num, s0: Num) -> Seq
     ensures { result ≡ seq s1 s2 s0 }
 {
@@ -48,7 +48,7 @@ fn currents(n: Num, a: Seq) -> Seq
     seq(a.s1 * c, a.s2 * c, a.s0 * c)
 }
 
-// The fault of a kind at a board with an earth return or without: D is the square of the divisor's absolute value. Parameters and clauses are what callers meet: a type that held them, or a named kind, would ask more.
+// The fault of a kind at a board with an earth return or without: D is the square of the divisor's absolute value. `kind` stays a number: the clause speaks of any, over 4 too. z1 to zf stay: `fault_at` has them of a node and of a fault, and a struct would be built for this call alone.
 pub fn short(z1: Ohms, z2: Ohms, z0: Ohms, zf: Ohms, kind: u8, earthed: bool) -> Shorted
     requires z1_at_most { AtMost 4095 z1 }
     requires z2_at_most { AtMost 4095 z2 }

@@ -1,4 +1,4 @@
-// A fault at a board without earth return: current that has no way back through earth does not flow, and the healthy phases rise instead.
+// A fault at a board without earth return: current that has no way back through earth does not flow, and the healthy phases rise instead. A kind and whether there is a return stay two parameters, as `shorted_of` has them: a type of both would be made for these calls alone.
 ghost use Rattle.std.specs.Prelude.{not, cond, ◌&&◌, [], ◌∷◌, ◌≡◌, eqb, get_or};
 ghost use Rattle.turn.specs.Number.{whole_n, ◌-N◌, ◌*N◌};
 ghost use Rattle.paper.specs.Kind.{ohms};

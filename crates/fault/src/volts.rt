@@ -38,7 +38,7 @@ impl OverD {
     }
 }
 
-// The referred voltages, over D, of a board that shares za, zb and zc with the faulted one, and whose W0 is lifted by `up`. The clauses are what callers meet: a type that held them would ask more.
+// The referred voltages, over D, of a board that shares za, zb and zc with the faulted one, and whose W0 is lifted by `up`. No plainer with an OverD for d and i: `board` has the two in a Faulted.
 pub fn voltage(d: i64, i: Seq, za: Ohms, zb: Ohms, zc: Ohms, up: Num) -> Seq
     requires d_small { Small most_d d }
     requires i_plane { EachSeq (Plane most_i) i }

@@ -57,7 +57,7 @@ fn show<W: Write>(to: &mut W, net: &[u8], flt: &[u8], buffer: &mut [i64]) -> io:
     print(to, answer, buffer)
 }
 
-// What cannot be written is left out.
+// Where a write fails, the rest of the case is left out.
 fn case<W: Write>(to: &mut W, net: &[u8], flt: &[u8], room: usize) {
     let mut space = [FOUND; MOST];
     if room <= MOST {

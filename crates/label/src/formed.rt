@@ -5,17 +5,16 @@ ghost use Rattle.paper.specs.Label.{visible_then_blank, formed};
 
 use crate::{first_eight, last_four};
 use file::field::SPACE;
-use std::num::wrapping_add_u64;
 
 // Eight bytes at once, 0x80 saying yes in each: each is 0x20 to 0x7E, and none that is shown stands right behind a space.
 // The sums of a byte of 0x80 or above can reach the next byte: it is wrong itself, so what they say of others is nobody's.
-// Stays by words: byte by byte it was almost half of what judging a record took (docs/DECISIONS.md, 88).
+// Stays by words: a loop over the bytes was almost half of what judging a record took (docs/DECISIONS.md, 88), and the bar for the whole call is 1.2 times the yardstick's (docs/SPEED.md).
 fn letters_then_spaces(w: u64) -> bool
     ensures { result ≡ visible_then_blank (little 8 w) }
 {
-    let past_space = wrapping_add_u64(w, 0x5F5F_5F5F_5F5F_5F5F);
-    let from_space = wrapping_add_u64(w, 0x6060_6060_6060_6060);
-    let delete = wrapping_add_u64(w, 0x0101_0101_0101_0101);
+    let past_space = w.wrapping_add(0x5F5F_5F5F_5F5F_5F5F);
+    let from_space = w.wrapping_add(0x6060_6060_6060_6060);
+    let delete = w.wrapping_add(0x0101_0101_0101_0101);
     let outside = (from_space ^ 0x8080_8080_8080_8080) | delete | w;
     let late = (past_space / 256) & (past_space ^ 0x8080_8080_8080_8080);
     ((outside | late) & 0x8080_8080_8080_8080) == 0

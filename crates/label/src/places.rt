@@ -10,6 +10,7 @@ use file::table::empty_board;
 use paper::Board;
 
 // Of a board: the first place of its own label, and that of its feeder's (0: none).
+// 0 as the paper's `place_of` has it; an Option would leave a gap in each of a table that is cleared in one go (docs/DECISIONS.md, 60, of nodes).
 #[derive(Clone, Copy)]
 pub struct Place {
     pub own: u16,
@@ -17,6 +18,7 @@ pub struct Place {
 }
 
 // What a search among a network's records gives: every record's own and feeder's place, and that of the label that is asked for (0: none). Tables have 256 places whatever N is: nothing is allocated here or above.
+// Of the label too 0 as the paper's `place_of` has it.
 #[derive(Clone, Copy)]
 pub struct Found {
     pub places: [Place; 256],
@@ -35,8 +37,8 @@ pub(crate) fn find_all(boards: &[Board], places: &mut [Place; 256])
     }
 }
 
-// n and what is asked of it stay beside net: a type that holds them would ask more of those who call this.
-// The boards stay here: decoded in capitals, and searched. One function fills the table and lends it: a table that is passed is copied.
+// n stays beside net: no plainer as one type, which `network::read` and `write_page` would build of the two for this, `judge` and `judge_all` to take apart.
+// The boards stay here: decoded in capitals, and searched. One function fills the table and lends it: a table that is passed is copied, so this loop is no twin to share with `stream::case::boards_of`, which hands its own on.
 pub fn places_in(net: &[u8], n: usize, label: [u8; 12]) -> Found
     requires { (n ≡ (head_of net.now).boards) × (n ≤ 256) × (length net.now ≡ 8 + 44 * n) }
     ensures { result ≡ found_in (boards_of net.now) label }

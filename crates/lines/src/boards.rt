@@ -32,7 +32,7 @@ fn label_of(net: &[u8], i: usize) -> [u8; 12]
     board.label
 }
 
-// The numbers stand behind D and the fault currents. n stands beside net with its clauses, as in `records::judge`.
+// The numbers stand behind D and the fault currents. No plainer with net and n as one type: `text` would build it for this call alone.
 pub fn put_boards(pen: &mut Pen<'_>, net: &[u8], n: usize, zs: &[i64])
     requires n_value { n ≡ (head_of net.now).boards }
     requires net_len { length net.now ≡ 8 + 44 * n }

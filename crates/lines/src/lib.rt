@@ -20,7 +20,7 @@ pub fn put_refusal(pen: &mut Pen<'_>, number: u8, place: u16)
     pen.pair(number as u64, place as u64);
 }
 
-// Label, kind, phase, amps.
+// Label, kind, phase, amps. The kind is the number that is printed.
 pub fn put_fault(pen: &mut Pen<'_>, l: [u8; 12], kind: u8, phase: u8, amps: u64)
     requires { Fits (fault_line l kind phase amps) pen.old }
     ensures { Writes (fault_line l kind phase amps) pen.old pen.new }

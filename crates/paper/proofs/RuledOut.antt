@@ -11,6 +11,9 @@ use Rattle.paper.specs.Rule.{number_of}
 use Rattle.paper.proofs.OhmsPartialEq.eq.Reads as eq
 use Rattle.paper.proofs.Rule.number.Reads as number
 use Rattle.paper.proofs.NumFromOhms.from.Reads as from
+use Rattle.paper.proofs.Part.of_record.Reads as of-record
+use Rattle.paper.specs.Refusal.{the_record}
+use lib.Dec.{lit≤}
 use Rattle.turn.proofs.Told.{told as number_told}
 use Rattle.turn.specs.Number.{complex_n}
 use Rattle.paper.specs.Fault.{num_of}
@@ -22,6 +25,13 @@ use Rattle.paper.specs.declared.Lent.{Lent}
 use Rattle.paper.specs.declared.Lent.TheVariants.{NetworkBytes, FaultBytes}
 use Rattle.paper.specs.declared.Refusal.{Refusal}
 use Rattle.paper.proofs.Compare.{ordinal}
+
+pub of_record_not : RuledOut (of-record.Pre tt) (ever (of-record.Post tt)) (
+    (1, tt) ↛ part NetworkBytes 0 44  -- record_without_the_head
+    ∷ (2, tt) ↛ part NetworkBytes 96 44  -- part_of_the_next
+    ∷ (2, tt) ↛ part NetworkBytes 52 52  -- part_to_the_place
+    ∷ [])
+of_record_not = by_equation (λ a. the_record a.0) (λ p. list (ordinal p.whose ∷ p.start ∷ p.len ∷ [])) (λ a z e s. s) (lit≤ tt, (lit≤ tt, (lit≤ tt, tt))) tt
 
 -- R + jX
 pub from_not : RuledOut (from.Pre tt) (ever (from.Post tt)) (

@@ -1,9 +1,10 @@
 // The files and the answer of the paper, as the crates above pass them to each other. What each field means stands in specs/.
 #![tactic(auto)]
 
-ghost use Rattle.std.specs.Prelude.{◌≡◌};
+ghost use Rattle.std.specs.Prelude.{◌≡◌, ◌≤◌};
 ghost use Rattle.paper.specs.Bytes.{part};
 ghost use Rattle.paper.specs.Fault.{num_of};
+ghost use Rattle.paper.specs.Refusal.{the_record};
 ghost use Rattle.paper.specs.Rule.{number_of};
 
 use turn::Num;
@@ -92,6 +93,18 @@ impl Part {
         start: 0,
         len: 0,
     };
+
+    // Record r of the network.
+    pub fn of_record(r: u16) -> Part
+        requires { 1 ≤ r }
+        ensures { result ≡ the_record r }
+    {
+        Part {
+            whose: Lent::NetworkBytes,
+            start: 8 + 44 * (usize::from(r) - 1),
+            len: 44,
+        }
+    }
 }
 
 // The rules of the refusal table by name, each with its number there. 18 is withdrawn.

@@ -10,7 +10,7 @@ use Rattle.paper.specs.declared.Refusal.{Refusal}
 use Rattle.paper.specs.declared.EarthReturn.TheVariants.{From, Stopped}
 use Rattle.paper.specs.declared.Lent.TheVariants.{NetworkBytes, FaultBytes, LabelBytes}
 use Rattle.paper.specs.Bytes.{part}
-use Rattle.paper.specs.Return.{said}
+use Rattle.paper.specs.Return.{said, refused_by}
 use Rattle.paper.specs.Refusal.{no_part}
 use Rattle.ranjupeli.specs.declared.Reply.{Reply}
 use Rattle.ranjupeli.specs.declared.WriteReply.{WriteReply}
@@ -18,6 +18,7 @@ use Rattle.ranjupeli.specs.declared.EarthReply.{EarthReply}
 use Rattle.ranjupeli.specs.Reply.{owner_of, reply_of, write_reply_of, earth_reply, earth_reply_of}
 use Rattle.ranjupeli.proofs.ReplyFromAnswer.from.Reads as reply-from
 use Rattle.ranjupeli.proofs.WriteReplyFromWritten.from.Reads as write-reply-from
+use Rattle.ranjupeli.proofs.EarthReplyFromRefusal.from.Reads as refused-reply-from
 use Rattle.ranjupeli.proofs.EarthReplyFromResultEarthReturnRefusal.from.Reads as earth-reply-from
 
 -- ---- of `solve`: a fault of 19 bytes, and 01's booth
@@ -72,3 +73,11 @@ pub from_earth_not : RuledOut (earth-reply-from.Pre tt) (ever (earth-reply-from.
 unfolding said earth_reply_of earth_reply owner_of
 from_earth_not =
     by_equation (λ a. earth_reply_of (said a.0)) (λ r. list (r.number ∷ r.place ∷ r.earthed ∷ r.start ∷ r.len ∷ r.owner ∷ [])) (λ a z e s. s) (tt, (tt, (tt, (tt, (tt, (tt, tt)))))) tt
+
+pub from_refusal_not : RuledOut (refused-reply-from.Pre tt) (ever (refused-reply-from.Post tt)) (
+    (record { part = part LabelBytes 0 11; place = 0; number = 14 }, tt) ↛ earth 0 0 0 0 11 2  -- number_of_the_refusal_lost
+    ∷ (record { part = part NetworkBytes 52 44; place = 2; number = 9 }, tt) ↛ earth 9 0 0 52 44 0  -- place_of_the_refusal_lost
+    ∷ [])
+unfolding earth_reply_of earth_reply owner_of
+from_refusal_not =
+    by_equation (λ a. earth_reply_of (refused_by a.0)) (λ r. list (r.number ∷ r.place ∷ r.earthed ∷ r.start ∷ r.len ∷ r.owner ∷ [])) (λ a z e s. s) (tt, (tt, tt)) tt

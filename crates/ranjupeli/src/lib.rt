@@ -54,7 +54,7 @@ pub fn ranjupeli_solve(net: &[u8], flt: &[u8], buffer: &mut [i64]) -> Reply
     Reply::from(a)
 }
 
-// What writing returned. There is no part: no bytes were given.
+// What writing returned, as C lays it out. There is no part: no bytes were given.
 #[repr(C)]
 #[derive(Clone, Copy)]
 pub struct WriteReply {
@@ -83,7 +83,7 @@ pub fn ranjupeli_write(volts: u16, unit: u16, boards: &[Board], out: &mut [u8]) 
     WriteReply::from(writer::write(volts, unit, boards, out))
 }
 
-// What asking for an earth return gave: number 0, whether there is one (1, else 0) and the record that is named; or the rule that is broken. An answer shows no bytes.
+// What asking for an earth return gave, as C lays it out: number 0, whether there is one (1, else 0) and the record that is named; or the rule that is broken. An answer shows no bytes.
 #[repr(C)]
 #[derive(Clone, Copy)]
 pub struct EarthReply {

@@ -20,9 +20,9 @@ use file::bytes::board_of;
 use file::field::u16_at;
 use label::places::{Place, places_in};
 use node::Node;
-use paper::{Lent, Part, Refusal, Rule};
+use paper::{Part, Refusal, Rule};
 
-// The records judged: all kept, or the first that is refused; and either way the place of the board that is asked for (0: none).
+// The records judged: all kept, or the first that is refused; and either way the place of the board that is asked for (0: none, as the paper's `place_of` has it).
 #[derive(Clone, Copy)]
 pub struct Judged {
     pub asked: u16,
@@ -34,14 +34,10 @@ fn refused(r: usize, rule: Rule) -> Refusal
     requires { (1 ≤ r) × (r ≤ 256) }
     ensures { result ≡ record { part = the_record r; place = r; number = number_of rule } }
 {
-    let part = Part {
-        whose: Lent::NetworkBytes,
-        start: 8 + 44 * (r - 1),
-        len: 44,
-    };
+    let place = r as u16;
     Refusal {
-        part,
-        place: r as u16,
+        part: Part::of_record(place),
+        place,
         number: rule.number(),
     }
 }
@@ -52,10 +48,9 @@ fn fed_by(feeder: usize, nodes: &[Node; 256]) -> Node
     requires { feeder ≤ 256 }
     ensures { result ≡ fed_by feeder nodes.now }
 {
-    if feeder == 0 {
-        Node::NONE
-    } else {
-        nodes[feeder - 1]
+    match feeder.checked_sub(1) {
+        Some(i) => nodes[i],
+        None => Node::NONE,
     }
 }
 
@@ -93,8 +88,7 @@ fn judge_all(
     Ok(())
 }
 
-// n and what is asked of it stay beside net: a type that holds them would ask more of those who call this.
-// n stands beside net with its clause: a type that held both would ask more of who calls. A table of nodes that say none is filled with those of all records. What it holds where a record is refused is nobody's.
+// n stays beside net, as in `label::places::places_in`. A table of nodes that say none is filled with those of all records. What it holds where a record is refused is nobody's.
 pub fn judge(net: &[u8], n: usize, label: [u8; 12], nodes: &mut [Node; 256]) -> Judged
     requires n_value { (n ≡ (head_of net.now).boards) × (n ≤ 256) × (length net.now ≡ 8 + 44 * n) }
     requires nodes_value { nodes.old ≡ table no_node [] }

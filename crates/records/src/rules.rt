@@ -14,7 +14,7 @@ use label::is_spaces;
 use node::Node;
 use paper::{Board, Rule};
 
-// Record r as it was read: its mark, its board, and where its label and its feeder's first stand among all boards.
+// Record r as it was read: its mark, its board, and where its label and its feeder's first stand among all boards (0: nowhere, as the paper's `place_of` has it).
 #[derive(Clone, Copy)]
 pub(crate) struct Entry {
     pub r: usize,

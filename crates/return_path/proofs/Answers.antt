@@ -1,5 +1,5 @@
 -- Each return of `earth`, from the facts in the shape in which the branches have them, is what the paper says. Assumes nothing.
-use mathlib.Core.Bool.{Bool, true, false, not, cond, ◌||◌}
+use mathlib.Core.Bool.{Bool, true, false, not, cond, ◌||◌, or-true}
 use mathlib.Core.List.{List}
 use mathlib.Core.Option.{Option, none}
 use mathlib.Core.Path.{◌≡◌, refl, sym, ◌∙◌, ap}
@@ -7,9 +7,8 @@ use Prim.Native.Nat.{ℕ, suc, ◌-◌, ◌≤◌, ◌<◌}
 use native.Mathlib.Omega.{arith}
 use lib.Dec.{eqb}
 use lib.ListN.{length, get_or}
-use borrow.Author.Tests.{eq-eqb, ne_eqb, eqb-true, eqb-false}
+use borrow.Author.Tests.{eq-eqb, ne_eqb, eqb-true}
 use Rattle.std.specs.Prelude.{Result, Ok, Err}
-use Rattle.lemmas.proofs.Bools.{neither, same_by}
 use Rattle.paper.specs.declared.Refusal.{Refusal}
 use Rattle.paper.specs.declared.Lent.TheVariants.{LabelBytes}
 use Rattle.paper.specs.Bytes.{bytes_at, part}
@@ -69,25 +68,18 @@ module _ (net : List ℕ) (l : Label) where
         ∙ ap (λ (x : Label). place_of x bs) (w-is ∙ ap (λ (t : Bool). cond t (bytes_at 12 l 0) spaces) (eq-eqb (length l) 12 e) ∙ all_bytes l 12 e)
 
     -- 14: it has not twelve bytes, or no board has it
-    pub says_unknown : {s : Said} → (not (eqb (length l) 12) || eqb k 0) ≡ true → s ≡ refused_by (record { part = part LabelBytes 0 (length l); place = 0; number = 14 }) → s ≡ earth_said net l
+    pub says_unknown : {s : Said} → (length l ≡ 12 → k ≡ 0) → s ≡ refused_by (record { part = part LabelBytes 0 (length l); place = 0; number = 14 }) → s ≡ earth_said net l
     unfolding earth_said earth_rows refused_or label_rows first
-    says_unknown h e = e ∙ sym (rw (behind (network_rows net) (label_rows bs l) kept, same (eqb (length l) 12) refl ∙ h) refl)
+    says_unknown h e = e ∙ sym (rw (behind (network_rows net) (label_rows bs l) kept, unknown (eqb (length l) 12) refl) refl)
       where
-        same : (t : Bool) → eqb (length l) 12 ≡ t → (not (eqb (length l) 12) || eqb (place_of l bs) 0) ≡ (not (eqb (length l) 12) || eqb k 0)
-        same true q = ap (λ (m : ℕ). not (eqb (length l) 12) || eqb m 0) (sym (k_at (eqb-true (length l) 12 q)))
-        same false q = rw q refl
+        unknown : (t : Bool) → eqb (length l) 12 ≡ t → (not (eqb (length l) 12) || eqb (place_of l bs) 0) ≡ true
+        unknown true q =
+            let twelve = eqb-true (length l) 12 q in
+            ap (λ (m : ℕ). not (eqb (length l) 12) || eqb m 0) (sym (k_at twelve) ∙ h twelve) ∙ or-true (not (eqb (length l) 12))
+        unknown false q = rw q refl
 
     -- its board is found: the node that is read off is the board's
-    module _ (h : (not (eqb (length l) 12) || eqb k 0) ≡ false) where
-      twelve : length l ≡ 12
-      twelve = same_by (length l) 12 (neither (not (eqb (length l) 12)) (eqb k 0) h).0
-
-      there : k ≡ 0 → ⊥
-      there = eqb-false k 0 (neither (not (eqb (length l) 12)) (eqb k 0) h).1
-
-      pub from_1 : 1 ≤ k
-      from_1 = omega (arith, there)
-
+    module _ (twelve : length l ≡ 12) (from_1 : 1 ≤ k) where
       among : k ≤ length bs
       among = omega (arith, k_at twelve, place_most l bs)
 

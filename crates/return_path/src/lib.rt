@@ -31,10 +31,9 @@ pub fn earth(net: &[u8], label: &[u8]) -> Result<EarthReturn, Refusal>
     let wanted = label_in(label, LABEL, 0);
     let network = read(net, wanted, &mut nodes)?;
     let len = label.len();
-    let k = usize::from(network.k);
-    if (len != LABEL) | (k == 0) {
+    match usize::from(network.k).checked_sub(1) {
+        Some(i) if len == LABEL => Ok(of_node(nodes[i])),
         // 14, with all bytes of the label, however many.
-        return Err(Refusal::at_the_front(Rule::UnknownBoard, Lent::LabelBytes, len));
+        _ => Err(Refusal::at_the_front(Rule::UnknownBoard, Lent::LabelBytes, len)),
     }
-    Ok(of_node(nodes[k - 1]))
 }

@@ -18,7 +18,7 @@ pub product_not : RuledOut (product.Pre tt) (ever (product.Post tt)) (
     ∷ [])
 product_not = by_equation (λ a. a.0 * a.1.0) (λ n. n) (λ a z e s. s) (tt, (tt, (tt, tt))) tt
 
--- of products at and past 2 ^ 128, and of comparisons of numbers of two words
+-- of products at and past 2 ^ 128, and of comparisons of numbers past 64 bits
 pub reaches_not : RuledOut (reaches.Pre tt) (ever (reaches.Post tt)) (
     (2, (3, (1, tt))) ↛ true  -- reaches_den_by_its_high_word
     ∷ (2, (3, (2 ^ 64, tt))) ↛ true  -- reaches_past_a_square

@@ -34,7 +34,7 @@ fn answer(out: &mut [u8], net: &[u8], flt: &[u8]) -> usize
     text::print(out, net, flt, given, &space)
 }
 
-// Where it answers true, the answer stands on standard output behind what was there. What `earth` does alike is `console::print`; over a closure for the answer it would be no plainer.
+// Where it answers true, the answer stands on standard output behind what was there. What `earth` does alike is `console::print`; over a closure for the answer it would be no plainer. What may not change: its clause speaks of `true`, so no Result.
 fn show<O: Write, E: Write>(stdout: &mut O, stderr: &mut E, net: &[u8], flt: &[u8]) -> bool
     ensures { IsTrue result → Appends (O.contents stdout.old) (O.contents stdout.new) (printed net.now flt.now) }
 {

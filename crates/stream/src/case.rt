@@ -5,11 +5,11 @@ ghost use Rattle.paper.specs.File.{records, decoded};
 ghost use Rattle.stream.specs.Case.{u32_at, case_of, marks, byte_marks};
 
 use file::bytes::board_of;
-use file::field::u16_at;
 use file::table::empty_board;
 use paper::Board;
 
 // What a case says of itself: the entry point that it asks, by its number as it was read, the room that it lends, the bytes of its first part and of its second.
+// The entry may not become a name here: `case_of` (specs/Case) says the number, 0 and over 3 too; batch names it.
 #[derive(Clone, Copy)]
 pub struct Case {
     pub entry: usize,
@@ -22,9 +22,7 @@ fn u32_at(s: &[u8], i: usize) -> usize
     requires { i + 3 < length s.now }
     ensures { result ≡ u32_at s.now i }
 {
-    let low = u16_at(s, i) as usize;
-    let high = u16_at(s, i + 2) as usize;
-    low + 65536 * high
+    u32::from_le_bytes([s[i], s[i + 1], s[i + 2], s[i + 3]]) as usize
 }
 
 pub fn case_of(s: &[u8]) -> Case
@@ -39,7 +37,8 @@ pub fn case_of(s: &[u8]) -> Case
     }
 }
 
-// A table with places behind the n, since nothing is allocated: who calls lends the first n on. The n boards that a case brings to be written, each as a board's record, and empty places behind them. Their marks are not looked at.
+// The n boards that a case brings to be written, each as a board's record, and empty places behind them. Their marks are not looked at.
+// A table with places behind the n, since nothing is allocated: who calls lends the first n on.
 pub fn boards_of(s: &[u8], n: usize) -> [Board; 372]
     requires { (length s.now ≡ 44 * n) × (n ≤ 372) }
     ensures { result ≡ decoded (records n s.now) ++ replicate (372 - n) empty_board }

@@ -8,7 +8,7 @@ ghost use Rattle.std.specs.Prelude.{◌≡◌, ◌≤◌};
 ghost use Rattle.paper.specs.Refusal.{the_record};
 ghost use Rattle.paper.specs.Answer.{refused};
 
-use paper::{Answer, Lent, Part, Refusal};
+use paper::{Answer, Part, Refusal};
 
 // "Refused: number, place, N = 0, amps = 0"
 pub fn refused(why: Refusal) -> Answer
@@ -30,11 +30,7 @@ pub fn accepted(amps: u64, k: u16, n: u16) -> Answer
 {
     Answer {
         amps,
-        part: Part {
-            whose: Lent::NetworkBytes,
-            start: 8 + 44 * (usize::from(k) - 1),
-            len: 44,
-        },
+        part: Part::of_record(k),
         place: k,
         n,
         number: 0,

@@ -24,7 +24,7 @@ pub fn square(n: usize) -> u16
     SQUARES[n]
 }
 
-// A buffer: four numbers over a slice of four.
+// A buffer: four numbers over a slice of four. By a loop and not `copy_from_slice`: docs/PROVING.md shows its invariant.
 fn put(out: &mut [i64], v: [i64; 4])
     requires { length out.old ≡ 4 }
     ensures { out.new ≡ four_of v }

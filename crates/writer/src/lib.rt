@@ -11,7 +11,7 @@ use crate::lay::{put_boards, typed_boards};
 use crate::page::write_page;
 use paper::{Board, Written};
 
-// The entry point. Any numbers, any boards, any buffer; nothing is written until all is judged.
+// The entry point, with what C lends (`ranjupeli_write`), so volts and unit are two words. Any numbers, any boards, any buffer; nothing is written until all is judged.
 pub fn write(volts: u16, unit: u16, boards: &[Board], out: &mut [u8]) -> Written
     ensures value { result ≡ write_verdict volts unit boards.now (length out.old) }
     ensures out_after { out.new ≡ write_leaves volts unit boards.now out.old }

@@ -13,8 +13,8 @@ use Rattle.network.proofs.Kept.{network_few}
 use Rattle.answer.specs.Posed.{Posed}
 use Rattle.solve.specs.Told.{told}
 use Rattle.solve.proofs.Outcomes.{Asking, refused_network_lem, refused_fault, none_broken, as_posed, as_counted, room_there, refuses, accepts}
-use Rattle.solve.proofs.answered.Goals as goal
-use Rattle.solve.proofs.answered.Goals.{After-ask}
+use Rattle.solve.proofs.answering.answered.Goals as goal
+use Rattle.solve.proofs.answering.answered.Goals.{After-ask}
 
 -- what is known once the question is put
 asking : (c : After-ask) → Asking c.args.net.now c.args.flt.now (length c.args.buffer.now) c.in_ok-network.network c.ask.result

@@ -1,14 +1,17 @@
 -- The head is refused, a board is refused, there is no room, or the file is copied out.
 use Rattle.std.proofs.Common.{◌≡◌, ◌≤◌, Bool, List, ℕ, length, min, not, false, refl, sym, ◌∙◌, ap, arith}
-use Rattle.paper.specs.declared.Written.{Written}
-use Rattle.paper.specs.Refusal.{head_ranges, no_part}
+use borrow.Author.Rules.{rules}
+use Rattle.std.specs.Prelude.{Err}
+use Rattle.paper.specs.declared.Refusal.{Refusal}
+use Rattle.paper.specs.Refusal.{head_ranges}
 use Rattle.node.specs.Node.{no_node}
 use Rattle.node.proofs.Tables.{empty_table}
 use Rattle.decimal.specs.Wrote.{Wrote}
 use Rattle.paper.specs.Write.{head_bytes}
 use Rattle.writer.proofs.Judged.{head_said, wrong_head, long_fits, behind_fits, HeadPut, head_fits, len_fits, file_long, judged_as, wrong_board, no_room, all_kept, refused, accepted}
-use Rattle.writer.proofs.page.write_page.Goals as goal
-use Rattle.writer.proofs.page.write_page.Goals.{After-lay_head-len}
+use Rattle.writer.specs.Told.{told}
+use Rattle.writer.proofs.page.written.Goals as goal
+use Rattle.writer.proofs.page.written.Goals.{After-lay_head-len}
 
 -- ---- the head's test is the paper's
 said_as : (volts unit n : ℕ) {count : ℕ} {wrong b : Bool} → wrong ≡ not (head_ranges (record { volts = volts; unit = unit; boards = count })) → count ≡ min 65535 n → wrong ≡ b → not (head_ranges (head_said volts unit n)) ≡ b
@@ -20,17 +23,13 @@ put : (volts unit n : ℕ) {count end : ℕ} {page later : List ℕ} → not (he
     → HeadPut volts unit n page later
 put volts unit n kept v u l e w = record { kept = kept; volts_fit = v; unit_fit = u; long = l; k = _; k_is = e; end = _; wrote = w }
 
--- a refusal by a rule, whose number is known
-numbered : {w : Written} {k number : ℕ} → k ≡ number → w ≡ record { part = no_part; len = 0; place = 0; number = k } → w ≡ record { part = no_part; len = 0; place = 0; number = number }
-numbered e w-is = w-is ∙ ap (λ (m : ℕ). record { part = no_part; len = 0; place = 0; number = m }) e
-
 -- the file on the page, once the head stands there
 standing : (c : After-lay_head-len) → HeadPut c.args.volts c.args.unit c.args.n c.args.file.now c.lay_head-len.new.page
 standing c = put c.args.volts c.args.unit c.args.n (said_as _ _ _ c.head_wrong.ensures c.said-count.ensures c.if-head_wrong.false) (omega (arith, c.ranges.volts.fits)) (omega (arith, c.ranges.unit.fits)) c.requires c.said-count.ensures c.lay_head-len.ensures
 
 pub returns-then-head_wrong : goal.returns-then-head_wrong
 returns-then-head_wrong c =
-    let r = refused _ _ _ _ _ (wrong_head _ _ _ _ (said_as _ _ _ c.head_wrong.ensures c.said-count.ensures c.if-head_wrong.true)) (numbered c.number.ensures c.answered.ensures) in
+    let r = refused _ _ _ _ _ (wrong_head _ _ _ _ (said_as _ _ _ c.head_wrong.ensures c.said-count.ensures c.if-head_wrong.true)) (ap (λ (w : Refusal). told (Err w)) c.at_the_front.ensures) in
     record { value = r.0; out_after = r.1 }
 
 pub lay_head-len-requires : goal.lay_head-len-requires
@@ -52,21 +51,22 @@ slice_bounds-judge-end-2 c =
     let h = standing (goal.at.slice_bounds-judge-end-2 c).After-lay_head-len in
     file_long h
 
-pub judge-judged-requires : goal.judge-judged-requires
-judge-judged-requires c =
-    let h = standing (goal.at.judge-judged-requires c).After-lay_head-len in
+pub judge-requires : goal.judge-requires
+judge-requires c =
+    let h = standing (goal.at.judge-requires c).After-lay_head-len in
     record { n_value = judged_as h; nodes_value = empty_table no_node refl }
 
-pub returns-in-Err : goal.returns-in-Err
-returns-in-Err c =
-    let h = standing (goal.at.returns-in-Err c).After-lay_head-len in
-    let r = refused _ _ _ _ _ (wrong_board h _ _ c.judge-judged.ensures.value c.in-Err.is) c.answered-in-Err.ensures in
+pub returns-in_err-judge : goal.returns-in_err-judge
+returns-in_err-judge c =
+    let h = standing (goal.at.returns-in_err-judge c).After-lay_head-len in
+    let back : c.from_residual.result ≡ Err c.in_err-judge.field-0.0 = search rules in
+    let r = refused _ _ _ _ _ (wrong_board h _ _ c.judge.ensures.value c.in_err-judge.was) (ap told back) in
     record { value = r.0; out_after = r.1 }
 
 pub returns-then-out-len : goal.returns-then-out-len
 returns-then-out-len c =
     let h = standing (goal.at.returns-then-out-len c).After-lay_head-len in
-    let r = refused _ _ _ _ _ (no_room h _ _ c.judge-judged.ensures.value c.in_default.is c.if-out-len.true) (numbered c.number-then-out-len.ensures c.answered-then-out-len.ensures) in
+    let r = refused _ _ _ _ _ (no_room h _ _ c.judge.ensures.value c.in_ok-judge.was c.if-out-len.true) (ap (λ (w : Refusal). told (Err w)) c.at_the_front-then-out-len.ensures) in
     record { value = r.0; out_after = r.1 }
 
 pub slice_bounds-copy_out-end : goal.slice_bounds-copy_out-end
@@ -82,5 +82,5 @@ slice_bounds-copy_out-end-2 c =
 pub returns : goal.returns
 returns c =
     let h = standing (goal.at.returns c).After-lay_head-len in
-    let r = accepted _ _ _ _ _ h (all_kept h _ _ c.judge-judged.ensures.value c.in_default.is c.if-out-len.false) c.copy_out.ensures c.answered-2.ensures in
+    let r = accepted _ _ _ _ _ h (all_kept h _ _ c.judge.ensures.value c.in_ok-judge.was c.if-out-len.false) c.copy_out.ensures refl in
     record { value = r.0; out_after = r.1 }
