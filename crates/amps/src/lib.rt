@@ -10,7 +10,7 @@ ghost use Rattle.amps.specs.Positive.{Positive};
 use fault::kinds::FaultKind;
 use paper::Ohms;
 
-// |I|² times D, of the current that the amps are of. Current to earth flows only where there is an earth return.
+// |I|² times D, of the current that the amps are of. Current to earth flows only where there is an earth return. A kind and whether there is one stay two, as in `factor` (paper).
 fn factor(z2: Ohms, kind: FaultKind, earthed: bool) -> u64
     ensures { result ≡ factor (not earthed) z2 (number_of kind) }
 {

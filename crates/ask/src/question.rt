@@ -37,6 +37,7 @@ pub(crate) fn at_board(fault: Fault, k: u16, n: usize, room: usize) -> Result<Qu
     requires { n ≤ 256 }
     ensures { result ≡ asked_at fault k n room }
 {
+    // by the number: 15 is of those that are no kind
     if 3 < fault.kind {
         return Err(Refusal::at_the_front(Rule::FaultKind, Lent::FaultBytes, FAULT));
     }

@@ -9,7 +9,7 @@ use paper::Fault;
 // The most that a part of Zf may be.
 const MOST: u16 = 1365;
 
-// 16, said of the numbers
+// 16. What may not change: `phase_wrong` (paper) says it of the numbers, of kinds over 3 too.
 #[tactic(auto, unfolding(paper::specs::Refusal::phase_wrong))]
 pub(crate) fn phase_wrong(f: Fault) -> bool
     ensures { result ≡ phase_wrong f }

@@ -2,8 +2,7 @@
 // A turn is quarters back and thirds forward. Quarters make R + jX of R + jX; thirds in d say which phase shows what, and nothing is turned by them.
 ghost use Rattle.std.specs.Prelude.{cond, ◌≡◌, ◌+◌, ◌*◌, ◌%◌, ◌≤◌};
 ghost use Rattle.turn.specs.Number.{◌+N◌, turn_n};
-ghost use Rattle.turn.specs.Bounds.{Within};
-ghost use Rattle.turn.specs.Bounds.{Addable};
+ghost use Rattle.turn.specs.Bounds.{Within, Addable};
 ghost use Rattle.paper.specs.Bounds.{Plane, EachSeq, most_w};
 ghost use Rattle.paper.specs.Phase.{phases};
 ghost use Rattle.paper.specs.Answer.{flat};

@@ -31,7 +31,7 @@ pub struct Shorted {
     pub lift: Num,
 }
 
-// The three sequences. By a function, since the clauses name it (`seq`).
+// The three sequences. By a function: no plainer written out at each of its calls.
 pub(crate) fn seq(s1: Num, s2: Num, s0: Num) -> Seq
     ensures { result ≡ seq s1 s2 s0 }
 {

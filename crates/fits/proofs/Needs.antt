@@ -7,8 +7,7 @@ use lib.IntN.{ℤ}
 use Rattle.lemmas.specs.Small.{Small}
 use Rattle.turn.specs.declared.Num.{Num}
 use Rattle.turn.specs.Number.{whole_n, one_n, ◌+N◌, ◌-N◌, ◌*N◌, turn_n, conj_n}
-use Rattle.turn.specs.Bounds.{Within}
-use Rattle.turn.specs.Bounds.{Addable, Negatable, Squarable, Factors}
+use Rattle.turn.specs.Bounds.{Within, Addable, Negatable, Squarable, Factors}
 use Rattle.turn.proofs.Within.{within_weak, within_add, within_turn}
 use Rattle.paper.specs.declared.Ohms.{Ohms}
 use Rattle.paper.specs.declared.Seq.{Seq}

@@ -7,8 +7,7 @@ use Rattle.lemmas.specs.Small.{Small}
 use Rattle.lemmas.proofs.Distance.{small_neg}
 use Rattle.turn.specs.declared.Num.{Num}
 use Rattle.turn.specs.Number.{whole_n, complex_n, ◌+N◌, neg_n, ◌-N◌, ◌*N◌, turn_n, conj_n}
-use Rattle.turn.specs.Bounds.{Within}
-use Rattle.turn.specs.Bounds.{Addable, Negatable, Squarable, Factors}
+use Rattle.turn.specs.Bounds.{Within, Addable, Negatable, Squarable, Factors}
 use Rattle.turn.proofs.Conj.{complex_conj}
 use Rattle.turn.proofs.Within.{within_weak, within_add, within_neg, within_complex, within_turn_complex, within_complex_mul}
 use Rattle.paper.specs.declared.Ohms.{Ohms}

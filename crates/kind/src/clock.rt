@@ -22,7 +22,7 @@ fn clock_listed(kind: u8, clock: u8) -> bool
     }
 }
 
-// "Kinds 0 and 1 occur in record 1 and only there": by the numbers, as `kind_wrong` (paper) says it of kinds over 5 too.
+// "Kinds 0 and 1 occur in record 1 and only there". By the number, and no plainer by name: a match would need an arm for what is no kind.
 pub fn kind_wrong(r: usize, b: Board) -> bool
     ensures { result ≡ kind_wrong r b }
 {

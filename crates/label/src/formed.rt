@@ -8,7 +8,7 @@ use file::field::SPACE;
 
 // Eight bytes at once, 0x80 saying yes in each: each is 0x20 to 0x7E, and none that is shown stands right behind a space.
 // The sums of a byte of 0x80 or above can reach the next byte: it is wrong itself, so what they say of others is nobody's.
-// Stays by words: a loop over the bytes was almost half of what judging a record took (docs/DECISIONS.md, 88), and the bar for the whole call is 1.2 times the yardstick's (docs/SPEED.md).
+// By words, a rule of docs/DECISIONS.md, 88: a loop over the bytes was almost half of what judging a record took.
 fn letters_then_spaces(w: u64) -> bool
     ensures { result ≡ visible_then_blank (little 8 w) }
 {

@@ -37,7 +37,7 @@ pub(crate) fn find_all(boards: &[Board], places: &mut [Place; 256])
     }
 }
 
-// n stays beside net: no plainer as one type, which `network::read` and `write_page` would build of the two for this, `judge` and `judge_all` to take apart.
+// n stays beside net: no plainer as one type, which `network::read` and `written` (`writer`) would build of the two for this, `judge` and `judge_all` to take apart.
 // The boards stay here: decoded in capitals, and searched. One function fills the table and lends it: a table that is passed is copied, so this loop is no twin to share with `stream::case::boards_of`, which hands its own on.
 pub fn places_in(net: &[u8], n: usize, label: [u8; 12]) -> Found
     requires { (n ≡ (head_of net.now).boards) × (n ≤ 256) × (length net.now ≡ 8 + 44 * n) }

@@ -1,6 +1,5 @@
 -- 01, 'What the caller gets': the rules of the refusal table by name, and their numbers: "When an answer is an enum, a definition specifies this paper's number". Assumes nothing.
-use Rattle.std.specs.Prelude.{[], ◌∷◌, ℕ, zero, suc, get_or}
-use Rattle.std.specs.Prelude.{Result, Ok, Err}
+use Rattle.std.specs.Prelude.{[], ◌∷◌, ℕ, zero, suc, get_or, Result, Ok, Err}
 use Rattle.std.proofs.Math.Option.{Option, none, some}
 use Rattle.paper.specs.declared.Refusal.{Refusal}
 use Rattle.paper.specs.declared.Rule.{Rule}

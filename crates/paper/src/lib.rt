@@ -133,6 +133,7 @@ pub enum Rule {
 }
 
 impl Rule {
+    // No plainer by `From<Rule> for u8`: `rule.number()` says what the number is.
     pub fn number(self) -> u8
         ensures { result ≡ number_of self }
     {

@@ -39,7 +39,7 @@ fn copy_out(out: &mut [u8], file: &[u8])
     out[..file.len()].copy_from_slice(file);
 }
 
-// The file's length, or the first rule that is broken. What part a refusal says is nobody's: `write_page` has its own.
+// The file's length, or the first rule that is broken. What part a refusal says is nobody's: `write_page` has its own. volts and unit are two words, as in `write`.
 fn written(
     volts: u16,
     unit: u16,
