@@ -1,12 +1,12 @@
 -- Text written behind text: what the functions that write hand on to each other. Assumes nothing.
 use mathlib.Core.Path.{◌≡◌, refl, sym, ap, ◌∙◌}
-use mathlib.Core.List.{List, [], ◌∷◌, ◌++◌}
+use mathlib.Core.List.{List, [], ◌∷◌, ◌++◌, append_assoc}
 use Prim.Native.Nat.{ℕ, ◌+◌, ◌<◌}
 use native.Mathlib.Nat.{add-zero, zero-add}
 use native.Mathlib.Numerals.{add-one}
 use native.Mathlib.Omega.{arith}
-use lib.ListN.{length, take, drop, set, length-append, take-append-drop}
-use lib.Seq.{take-append_seam, drop-drop, set_split}
+use lib.ListN.{length, get_or, take, drop, set, length-append, take-append-drop}
+use lib.Seq.{paste, paste-suc, take-length, take-append_seam, drop-drop, set_split}
 use Rattle.lemmas.specs.Over.{over}
 use Rattle.lemmas.proofs.Over.{over_length, over_then}
 use Rattle.decimal.specs.Wrote.{Room, Wrote}
@@ -20,6 +20,24 @@ wrote_none at o = record { stands = sym (take-append-drop at o); behind = sym (a
 pub wrote_byte : (at b : ℕ) (o : List ℕ) → at < length o → Wrote at (b ∷ []) o (set o at b) (at + 1)
 unfolding over
 wrote_byte at b o h = record { stands = set_split o at b h ∙ ap (λ (l : List ℕ). take at o ++ b ∷ l) (ap (λ (n : ℕ). drop n o) (sym (add-one at)) ∙ sym (drop-drop 1 at o)); behind = refl }
+
+-- a copy
+pub wrote_copy : (at n : ℕ) (s o later : List ℕ) → later ≡ paste o at s n → n ≡ length s → Wrote at s o later (at + n)
+unfolding over
+wrote_copy at n s o later e l =
+    record {
+      stands =
+          e ∙ ap (λ (m : ℕ). paste o at s m) l
+          ∙ ap (λ (x : List ℕ). (take at o ++ x) ++ drop (at + length s) o) (take-length s)
+          ∙ append_assoc (take at o) s (drop (at + length s) o)
+          ∙ ap (λ (x : List ℕ). take at o ++ (s ++ x)) (sym (drop-drop (length s) at o));
+      behind = ap (λ (m : ℕ). at + m) l;
+    }
+
+-- a turn of it
+pub copy_turn : (at i : ℕ) (s o later : List ℕ) → later ≡ paste o at s i → at + i < length o → i < length s → set later (at + i) (get_or s i 0) ≡ paste o at s (i + 1)
+copy_turn at i s o later e h l =
+    ap (λ (x : List ℕ). set x (at + i) (get_or s i 0)) e ∙ paste-suc o at s i 0 h l ∙ ap (λ (m : ℕ). paste o at s m) (sym (add-one i))
 
 -- the buffer stays as long as it was
 pub wrote_length : {at end : ℕ} {s o o' : List ℕ} → Room at s o → Wrote at s o o' end → length o' ≡ length o

@@ -5,7 +5,6 @@
 
 use file::field::u16_at;
 use paper::{Answer, Lent};
-use std::io;
 use std::io::Write;
 
 // What the buffer holds before a call. Room for 257 boards, one more than there may be.
@@ -20,48 +19,54 @@ fn kept(all: &[i64]) -> usize {
     all.iter().filter(|z| **z == FOUND).count()
 }
 
-fn numbers<W: Write>(to: &mut W, all: &[i64]) -> io::Result<()> {
+fn numbers<W: Write>(to: &mut W, all: &[i64]) {
     for (i, z) in all.iter().enumerate() {
         if i % 12 == 1 {
-            writeln!(to)?;
+            let _ = writeln!(to);
         }
-        write!(to, " {z}")?;
+        let _ = write!(to, " {z}");
     }
-    writeln!(to)
+    let _ = writeln!(to);
 }
 
-// The buffer after a call, all of the room that was lent.
-fn print<W: Write>(to: &mut W, answer: Answer, all: &[i64]) -> io::Result<()> {
+// The buffer after a call, all of the room that was lent. What cannot be written is left out, and what is behind it is tried all the same: each number by itself.
+fn print<W: Write>(to: &mut W, answer: Answer, all: &[i64]) {
     let part = answer.part;
     let whose = match part.whose {
-        Lent::NetworkBytes => "network",
-        Lent::FaultBytes => "fault",
-        Lent::LabelBytes => "label",
+        Lent::NetworkBytes => " network",
+        Lent::FaultBytes => " fault",
+        Lent::LabelBytes => " label",
     };
     let n = answer.n as usize;
-    write!(
-        to,
-        "CASE {} {} {} {}",
-        answer.number, answer.place, n, answer.amps
-    )?;
-    writeln!(to, " {whose} {} {} {}", part.start, part.len, kept(all))?;
+    let _ = write!(to, "CASE");
+    for number in [
+        answer.number as u64,
+        answer.place as u64,
+        n as u64,
+        answer.amps,
+    ] {
+        let _ = write!(to, " {number}");
+    }
+    let _ = write!(to, "{whose}");
+    for number in [part.start, part.len, kept(all)] {
+        let _ = write!(to, " {number}");
+    }
+    let _ = writeln!(to);
     let e = 13 + 24 * n;
     if answer.number == 0 && e <= all.len() {
-        numbers(to, &all[..e])?;
+        numbers(to, &all[..e]);
     }
-    Ok(())
 }
 
-fn show<W: Write>(to: &mut W, net: &[u8], flt: &[u8], buffer: &mut [i64]) -> io::Result<()> {
+fn show<W: Write>(to: &mut W, net: &[u8], flt: &[u8], buffer: &mut [i64]) {
     let answer = solve::solve(net, flt, buffer);
-    print(to, answer, buffer)
+    print(to, answer, buffer);
 }
 
-// Where a write fails, the rest of the case is left out.
 fn case<W: Write>(to: &mut W, net: &[u8], flt: &[u8], room: usize) {
     let mut space = [FOUND; MOST];
     if room <= MOST {
-        let _ = show(to, net, flt, &mut space[..room]);
+        show(to, net, flt, &mut space[..room]);
     }
 }
 

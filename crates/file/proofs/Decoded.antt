@@ -1,4 +1,4 @@
--- The boards, decoded in file order into a table of 256, each as a rule makes it; and the lent part that a record is decoded from. Assumes nothing.
+-- The boards, decoded in file order into a table of 256, each as a rule makes it; the lent part that a record is decoded from; and a board by its fields. Assumes nothing.
 use mathlib.Core.List.{List, [], ◌∷◌, ◌++◌, map, map-append}
 use mathlib.Core.Path.{◌≡◌, sym, ◌∙◌, ap}
 use Prim.Native.Nat.{ℕ, ◌+◌, ◌-◌, ◌*◌, ◌≤◌, ◌<◌}
@@ -7,7 +7,10 @@ use native.Mathlib.Numerals.{add-one}
 use lib.ListN.{length, take, drop, set, replicate, length-take, length-drop, length-map}
 use lib.Seq.{take_all, take_at, length-take-le}
 use Rattle.paper.specs.declared.Board.{Board}
-use Rattle.paper.specs.File.{head_of, board_of, boards_of}
+use Rattle.paper.specs.declared.Ohms.{Ohms}
+use Rattle.paper.specs.Bytes.{u8_at, bytes_at}
+use Rattle.paper.specs.Label.{Label}
+use Rattle.paper.specs.File.{head_of, ohms_at, board_of, boards_of}
 use Rattle.node.specs.Tables.{table, empty_board}
 use Rattle.node.proofs.Tables.{table_put, empty_table}
 use Rattle.node.proofs.Records.{bytes_of, boards_count, before_next}
@@ -47,3 +50,13 @@ part_is net a = let e : a + 44 - a ≡ 44 = omega arith in ap (λ (m : ℕ). tak
 
 pub part_length : (net : List ℕ) (a : ℕ) → a + 44 ≤ length net → length (take (a + 44 - a) (drop a net)) ≡ 44
 part_length net a h = simp (length-take, length-drop) (omega arith)
+
+-- a board's record, field by field, so that a refusal names the field
+pub by-fields : (s : List ℕ) {z1 z2 z0 zn : Ohms} {label feeder : Label} {kind clock : ℕ} → z1 ≡ ohms_at s 28 → z2 ≡ ohms_at s 32 → z0 ≡ ohms_at s 36 → zn ≡ ohms_at s 40
+    → label ≡ bytes_at 12 s 2
+    → feeder ≡ bytes_at 12 s 14
+    → kind ≡ u8_at s 26
+    → clock ≡ u8_at s 27
+    → record { z1 = z1; z2 = z2; z0 = z0; zn = zn; label = label; feeder = feeder; kind = kind; clock = clock } ≡ board_of s
+unfolding board_of
+by-fields s e1 e2 e0 en l f k c = λ i. record { z1 = e1 i; z2 = e2 i; z0 = e0 i; zn = en i; label = l i; feeder = f i; kind = k i; clock = c i }

@@ -1,5 +1,5 @@
 -- Looking for a label's very bytes: how far a place goes, and the place that is counted from 0. And in capitals: the places found so are the paper's. Assumes nothing.
-use Rattle.std.proofs.Common.{◌≡◌, ℕ, suc, ◌+◌, ◌≤◌, Bool, true, false, cond, [], ◌∷◌, map, length, refl, ap, ◌∙◌, arith, Some, None, add-one, sym}
+use Rattle.std.proofs.Common.{take, List, ◌≡◌, ℕ, suc, ◌+◌, ◌≤◌, Bool, true, false, cond, [], ◌∷◌, map, length, refl, ap, ◌∙◌, arith, Some, None, add-one, sym}
 use Rattle.std.specs.List.{position, position_from}
 use Rattle.std.proofs.lemmas.Option.{none-some}
 use Rattle.std.proofs.lemmas.Iterator.Adapters.{position_from-zero}
@@ -9,6 +9,7 @@ use Rattle.paper.specs.Label.{Label, capitals, same_label}
 use Rattle.paper.specs.Chain.{Boards, look_from, place_of}
 use Rattle.follows.specs.Capitals.{board_in_capitals}
 use Rattle.node.specs.Tables.{table}
+use Rattle.label.specs.declared.places.Place.{Place}
 use Rattle.label.specs.Places.{spelt_from, spelt_at, no_place, place_with, places_with, places_of}
 
 -- ---- a place is none, or one of the boards'
@@ -73,4 +74,4 @@ each_capitals all (b ∷ bs) = λ i. record { own = place_capitals b.label all i
 
 pub places_capitals : (bs : Boards) → places_with spelt_at (map board_in_capitals bs) ≡ places_of bs
 unfolding places_of places_with
-places_capitals bs = ap (table no_place) (each_capitals bs bs)
+places_capitals bs = ap (λ (ps : List Place). table no_place (take 256 ps)) (each_capitals bs bs)

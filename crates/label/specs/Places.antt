@@ -1,5 +1,5 @@
 -- Where each board's own label, and its feeder's, first stand among the boards. Assumes nothing.
-use Rattle.std.specs.Prelude.{ℕ, suc, cond, List, [], ◌∷◌, map}
+use Rattle.std.specs.Prelude.{ℕ, suc, cond, List, [], ◌∷◌, map, take}
 use Rattle.paper.specs.declared.Board.{Board}
 use Rattle.paper.specs.Bytes.{same_bytes}
 use Rattle.paper.specs.Label.{Label}
@@ -16,7 +16,7 @@ spelt_from r l (b ∷ bs) = let later = spelt_from (suc r) l bs in cond (same_by
 abbrev pub spelt_at : Label → Boards → ℕ
 spelt_at l bs = spelt_from 1 l bs
 
--- ---- by whichever rule a label's place is found: a board's own and its feeder's among some boards, and those of each board, in a table of 256
+-- ---- by whichever rule a label's place is found: a board's own and its feeder's among some boards, and those of each board, in a table of 256 (of more boards those of the first 256)
 abbrev pub no_place : Place
 no_place = record { own = 0; fed = 0 }
 
@@ -24,7 +24,7 @@ abbrev pub place_with : (Label → Boards → ℕ) → Boards → Board → Plac
 place_with place bs b = record { own = place b.label bs; fed = place b.feeder bs }
 
 unfoldable pub places_with : (Label → Boards → ℕ) → Boards → List Place
-places_with place bs = table no_place (map (place_with place bs) bs)
+places_with place bs = table no_place (take 256 (map (place_with place bs) bs))
 
 -- as the paper looks for labels
 unfoldable pub places_of : Boards → List Place

@@ -1,4 +1,4 @@
-mod Head
-mod Whole
+pub mod Head
+pub mod Whole
 pub mod Kept
 mod RuledOut

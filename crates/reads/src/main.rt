@@ -6,7 +6,6 @@ use file::field::u16_at;
 use network::Network;
 use node::Node;
 use paper::Refusal;
-use std::io;
 use std::io::Write;
 
 // What is read of the input at most.
@@ -19,25 +18,37 @@ fn read(net: &[u8]) -> Result<Network, Refusal> {
     network::read(net, nobody, &mut nodes)
 }
 
-fn show<W: Write>(to: &mut W, net: &[u8]) -> io::Result<()> {
+// What cannot be written is left out, and what is behind it is tried all the same: each number by itself.
+fn show<W: Write>(to: &mut W, net: &[u8]) {
     match read(net) {
-        Ok(network) => writeln!(to, "ACCEPTED {}", network.head.boards),
-        Err(why) => writeln!(
-            to,
-            "REFUSED {} {} {} {}",
-            why.number, why.place, why.part.start, why.part.len
-        ),
+        Ok(network) => {
+            let _ = write!(to, "ACCEPTED");
+            let _ = write!(to, " {}", network.head.boards);
+        }
+        Err(why) => {
+            let _ = write!(to, "REFUSED");
+            let part = why.part;
+            for number in [
+                why.number as usize,
+                why.place as usize,
+                part.start,
+                part.len,
+            ] {
+                let _ = write!(to, " {number}");
+            }
+        }
     }
+    let _ = writeln!(to);
 }
 
-// What cannot be written of a line is left out. No plainer as one function with that of `figures`, whose cases have two parts and three numbers.
+// No plainer as one function with that of `figures`, whose cases have two parts and three numbers.
 fn each<W: Write>(to: &mut W, all: &[u8]) {
     let mut left = all;
     while let Some((head, rest)) = left.split_at_checked(2) {
         let Some((net, later)) = rest.split_at_checked(u16_at(head, 0) as usize) else {
             return;
         };
-        let _ = show(to, net);
+        show(to, net);
         left = later;
     }
 }

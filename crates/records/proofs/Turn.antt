@@ -39,7 +39,7 @@ module _ (net : List ℕ) (i : ℕ) (nodes : List Node) (h : i < count net) (rea
   -- what the turn reads
   place_read : {l : List Place} → l ≡ places_of (boards_of net) → get_or l i no_place ≡ place_with place_of (boards_of net) b
   place_read e =
-      ap (λ (x : List Place). get_or x i no_place) e ∙ places_at (boards_of net) i (omega (arith, boards_count net))
+      ap (λ (x : List Place). get_or x i no_place) e ∙ places_at (boards_of net) i (omega (arith, boards_count net)) (omega (arith, boards_count net))
       ∙ ap (place_with place_of (boards_of net)) (board_at net no_board i h)
 
   -- the feeder's node, as the code picks it

@@ -1,3 +1,4 @@
+mod Compared
 pub mod Laws
 pub mod Tested
 mod RuledOut
