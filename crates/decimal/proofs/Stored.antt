@@ -6,7 +6,7 @@ use native.Mathlib.Nat.{add-zero, zero-add}
 use native.Mathlib.Omega.{arith}
 use lib.ListN.{length, set}
 use Rattle.decimal.specs.Wrote.{Room, Wrote}
-use Rattle.decimal.proofs.Writes.{wrote_none, wrote_byte, wrote_then, room_front, room_behind}
+use Rattle.decimal.proofs.Writes.{wrote_none, wrote_byte, wrote_then, room_behind}
 use Rattle.lemmas.specs.Little.{little}
 
 pub little_length : (k n : ℕ) → length (little k n) ≡ k

@@ -39,18 +39,14 @@ fn print<W: Write>(to: &mut W, answer: Answer, all: &[i64]) {
     };
     let n = answer.n as usize;
     let _ = write!(to, "CASE");
-    for number in [
-        answer.number as u64,
-        answer.place as u64,
-        n as u64,
-        answer.amps,
-    ] {
-        let _ = write!(to, " {number}");
-    }
+    let _ = write!(to, " {}", answer.number);
+    let _ = write!(to, " {}", answer.place);
+    let _ = write!(to, " {n}");
+    let _ = write!(to, " {}", answer.amps);
     let _ = write!(to, "{whose}");
-    for number in [part.start, part.len, kept(all)] {
-        let _ = write!(to, " {number}");
-    }
+    let _ = write!(to, " {}", part.start);
+    let _ = write!(to, " {}", part.len);
+    let _ = write!(to, " {}", kept(all));
     let _ = writeln!(to);
     let e = 13 + 24 * n;
     if answer.number == 0 && e <= all.len() {

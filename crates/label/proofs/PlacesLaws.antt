@@ -3,8 +3,7 @@ use Rattle.std.proofs.Common.{map, ◌≡◌, ℕ, zero, suc, ◌<◌, ◌≤◌
 use borrow.Author.Tests.{lt-leb}
 use lib.ListN.{length-map}
 use lib.Seq.{take_all}
-use Rattle.std.proofs.lemmas.List.{length-take}
-use Rattle.std.proofs.lemmas.List.{get_or-map}
+use Rattle.std.proofs.lemmas.List.{get_or-map, length-take}
 use Rattle.paper.specs.Label.{Label}
 use Rattle.paper.specs.Chain.{Boards, no_board, look_from, place_of}
 use Rattle.follows.proofs.Places.{Looked, missing, found, looked, place_most, place_stays, place_behind}

@@ -27,15 +27,10 @@ fn show<W: Write>(to: &mut W, net: &[u8]) {
         }
         Err(why) => {
             let _ = write!(to, "REFUSED");
-            let part = why.part;
-            for number in [
-                why.number as usize,
-                why.place as usize,
-                part.start,
-                part.len,
-            ] {
-                let _ = write!(to, " {number}");
-            }
+            let _ = write!(to, " {}", why.number);
+            let _ = write!(to, " {}", why.place);
+            let _ = write!(to, " {}", why.part.start);
+            let _ = write!(to, " {}", why.part.len);
         }
     }
     let _ = writeln!(to);
