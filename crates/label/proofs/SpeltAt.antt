@@ -1,5 +1,5 @@
 -- Looking for a label's very bytes: how far a place goes, and the place that is counted from 0. And in capitals: the places found so are the paper's. Assumes nothing.
-use Rattle.std.proofs.Common.{take, List, ◌≡◌, ℕ, suc, ◌+◌, ◌≤◌, Bool, true, false, cond, [], ◌∷◌, map, length, refl, ap, ◌∙◌, arith, Some, None, add-one, sym}
+use Rattle.std.proofs.Common.{◌≡◌, ℕ, suc, ◌+◌, ◌≤◌, Bool, true, false, cond, List, [], ◌∷◌, map, length, take, refl, ap, ◌∙◌, arith, Some, None, add-one, sym}
 use Rattle.std.specs.List.{position, position_from}
 use Rattle.std.proofs.lemmas.Option.{none-some}
 use Rattle.std.proofs.lemmas.Iterator.Adapters.{position_from-zero}

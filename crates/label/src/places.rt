@@ -31,7 +31,7 @@ pub(crate) fn find_all(boards: &[Board], places: &mut [Place; 256])
     ensures { places.new ≡ places_with spelt_at boards.now }
 {
     for (j, b) in boards.iter().enumerate() {
-        // The feeder first: so a search among 256 boards takes less, wherever the linker puts it (docs/SPEED.md).
+        // The feeder first: with the own label first `batch` took a third longer for 256 boards (docs/SPEED.md, "How a loop lies").
         let fed = find(boards, b.feeder) as u16;
         let own = find(boards, b.label) as u16;
         places[j] = Place { own, fed };
